@@ -1,0 +1,11 @@
+pub mod Bools
+pub mod Sums
+pub mod Maxima
+pub mod Alls
+pub mod Tabs
+pub mod Cut
+pub mod Ints
+pub mod Words
+pub mod Floors
+pub mod Every
+pub mod Logs

@@ -1,0 +1,9 @@
+pub mod Sum
+pub mod Largest
+pub mod All
+pub mod Tab
+pub mod Part
+pub mod Diff
+pub mod Twos
+pub mod Floor
+pub mod Log

@@ -1,0 +1,88 @@
+-- What verdicts tell of the questions that led to them.
+-- Assumes nothing.
+use Prim.Native.Nat.{ℕ, _≤_}
+use native.Mathlib.Omega.{arith}
+use mathlib.Core.Path.{_≡_, refl, sym, subst}
+use mathlib.Core.Bool.{Bool, true, false, _&&_}
+use mathlib.Core.List.{List}
+use lib.Dec.{T, leb, leb→le}
+use lib.ListN.{length, getD}
+use borrow.Author.Tests.{leb-true}
+use mir.Facts.{and-yes}
+use Rattle.table.specs.declared.layout.Table.{Table}
+use Rattle.table.specs.declared.layout.Verdict.{Verdict}
+use Rattle.table.specs.declared.layout.Verdict.the-variants.{Accepted, Refused}
+use Rattle.table.specs.Limits.{bitsGood, dropsGood, wordGood, rectGood}
+use Rattle.table.specs.Answers.{ask}
+use Rattle.table.specs.Format.{marked, rectOf, headSays, headerSays, fieldSays}
+use Rattle.table.specs.Slots.{HeadGood}
+
+not-accepted {ℓ} : {X : Type ℓ} (n p : ℕ) → Refused n p ≡ Accepted → X
+not-accepted n p e = absurd (let z : _≡_ {A = ℕ} 0 1 = cc in omega arith)
+
+-- acceptance: the question was answered yes, and so were those after it
+pub ask-accepted : (n : ℕ) (b : Bool) (next : Verdict) → ask n b next ≡ Accepted → (b ≡ true) × (next ≡ Accepted)
+ask-accepted n true next e = (refl, e)
+ask-accepted n false next e = not-accepted n 0 e
+
+-- a header that questions 3 to 5 accept
+pub record HeadTests (b q1 q2 q3 t w : ℕ) : Type 0 where
+  pub bits : bitsGood b ≡ true
+  pub drops : dropsGood b q1 q2 q3 ≡ true
+  pub word : wordGood t w ≡ true
+
+pub head-accepted : (b q1 q2 q3 t w : ℕ) → headSays b q1 q2 q3 t w ≡ Accepted → HeadTests b q1 q2 q3 t w
+unfolding headSays
+head-accepted b q1 q2 q3 t w e =
+    let x = ask-accepted 3 (bitsGood b) _ e in
+    let y = ask-accepted 4 (dropsGood b q1 q2 q3) _ (x .1) in
+    let z = ask-accepted 5 (wordGood t w) _ (y .1) in
+    record { bits = x .0; drops = y .0; word = z .0 }
+
+-- a header that they refuse fails one of them
+pub head-refused : (b q1 q2 q3 t w n p : ℕ) (rest : Bool) → headSays b q1 q2 q3 t w ≡ Refused n p
+    → (bitsGood b && (dropsGood b q1 q2 q3 && (wordGood t w && rest))) ≡ false
+unfolding headSays
+head-refused b q1 q2 q3 t w n p rest = go (bitsGood b) (dropsGood b q1 q2 q3) (wordGood t w)
+  where
+    go : (x y z : Bool) → ask 3 x (ask 4 y (ask 5 z Accepted)) ≡ Refused n p → (x && (y && (z && rest))) ≡ false
+    go true true true e = not-accepted n p (sym e)
+    go true true false e = refl
+    go true false z e = refl
+    go false y z e = refl
+
+-- the bounds behind the tests
+pub head-bounds : (t : Table) → HeadTests (t .b) (t .q1) (t .q2) (t .q3) (t .t) (t .w) → HeadGood t
+unfolding bitsGood wordGood
+head-bounds t h =
+    let b = and-yes (leb 1 (t .b)) (leb (t .b) 12) (subst T (sym (h .bits)) tt) in
+    let w = and-yes (leb (t .t) 31) (leb 8 (t .w) && leb (t .w) 32) (subst T (sym (h .word)) tt) in
+    let v = and-yes (leb 8 (t .w)) (leb (t .w) 32) (w .1) in
+    record { bits = leb→le _ _ (b .1); shift = leb→le _ _ (w .0); word-low = leb→le _ _ (v .0); word-high = leb→le _ _ (v .1) }
+
+-- a field that questions 7, 2 and 8 accept
+pub record FieldTests (bs : List ℕ) : Type 0 where
+  pub mark : marked 2 bs ≡ true
+  pub whole : 9 ≤ length bs
+  pub edges : rectGood (rectOf bs) ≡ true
+
+pub field-accepted : (bs : List ℕ) → fieldSays bs ≡ Accepted → FieldTests bs
+unfolding fieldSays
+field-accepted bs e =
+    let x = ask-accepted 7 (marked 2 bs) _ e in
+    let y = ask-accepted 2 (leb 9 (length bs)) _ (x .1) in
+    let z = ask-accepted 8 (rectGood (rectOf bs)) _ (y .1) in
+    record { mark = x .0; whole = leb-true _ _ (y .0); edges = z .0 }
+
+-- a header that questions 1 to 5 accept
+pub record HeaderTests (bs : List ℕ) : Type 0 where
+  pub mark : marked 1 bs ≡ true
+  pub whole : 9 ≤ length bs
+  pub head : HeadTests (getD bs 3 0) (getD bs 4 0) (getD bs 5 0) (getD bs 6 0) (getD bs 7 0) (getD bs 8 0)
+
+pub header-accepted : (bs : List ℕ) → headerSays bs ≡ Accepted → HeaderTests bs
+unfolding headerSays
+header-accepted bs e =
+    let x = ask-accepted 1 (marked 1 bs) _ e in
+    let y = ask-accepted 2 (leb 9 (length bs)) _ (x .1) in
+    record { mark = x .0; whole = leb-true _ _ (y .0); head = head-accepted _ _ _ _ _ _ (y .1) }

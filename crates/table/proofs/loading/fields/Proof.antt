@@ -1,0 +1,252 @@
+use Rattle.table.specs.Format.{loaded}
+use Rattle.table.specs.Answers.{ask}
+use borrow.Author.Tests.{le-leb, lt-leb}
+use Rattle.table.proofs.Asked.{FieldTests, field-accepted}
+use Rattle.table.proofs.Values.{slots}
+use mathlib.Core.List.{_∷_}
+use lib.ListN.{length-append}
+use Rattle.table.proofs.Fields.{fields-end, fields-full, fields-step}
+use Rattle.table.proofs.Structs.{contents-tableOf, placed, placed-is}
+use Rattle.table.specs.Format.{refused, after, plus, rectOf, fieldSays, atEnd, verdictOf, tableFrom}
+use Rattle.table.specs.Contents.{noRects}
+use Rattle.table.specs.declared.layout.Verdict.the-variants.{Accepted, Refused}
+use Rattle.table.specs.declared.layout.Verdict.{Verdict}
+use Rattle.table.specs.declared.layout.Table.{Table}
+use Rattle.arith.specs.Tab.{tab}
+use denote.Ref.{now}
+use lib.Seq.{take-all, drop-drop}
+use lib.ListN.{take, length-drop}
+use mathlib.Core.Path.{refl, sym, ap, _∙_}
+use native.Mathlib.Omega.{arith}
+use native.Mathlib.Nat.{le-of-eq}
+use mathlib.Core.List.{List, []}
+use Rattle.table.specs.Format.{Outcome, headOf, fieldsOf}
+use Rattle.table.specs.Contents.{Contents, contents, tableOf}
+use lib.ListN.{length, drop}
+use mathlib.Core.Path.{_≡_}
+use Prim.Native.Nat.{ℕ, suc, _+_, _-_, _≤_, _<_}
+use borrow.Author.Needs.{needs}
+use Rattle.table.proofs.loading.fields.Statement.{statement}
+use Rattle.table.proofs.loading.fields.Tie as tie
+use Rattle.table.proofs.loading.fields.Reads as reads
+use Rattle.table.proofs.loading.fields.Lts as lts
+use Rattle.table.proofs.loading.refused.Reads as refused-reads
+use Rattle.table.proofs.reading.field.Reads as field-reads
+use Rattle.table.proofs.reading.rect_of.Reads as rect-of-reads
+
+abbrev Inv-loop : tie.InvT-loop
+Inv-loop bytes t₀ at₀ t at =    (t ≡ tableOf (contents t)) × (t .count ≤ 16) × (at ≤ length bytes)
+    × (fieldsOf (16 - t .count) (drop at bytes) (contents t) ≡ fieldsOf 16 (drop 9 bytes) (headOf bytes))
+
+abbrev μ-loop : tie.MeasureT-loop
+μ-loop bytes t₀ at₀ t at = length bytes - at
+
+-- the part of the bytes from `at` on
+rest-is : (at : ℕ) (bs : List ℕ) → take (length bs - at) (drop at bs) ≡ drop at bs
+rest-is at bs = take-all (length bs - at) (drop at bs) (le-of-eq (length-drop at bs))
+
+-- what the loop has come to, where it ends in a refusal
+ended : (bs : List ℕ) (n p : ℕ) (v : Verdict) (t : Table) → fieldsOf 16 (drop 9 bs) (headOf bs) ≡ refused n p
+    → v ≡ Refused n p → t ≡ tableOf (noRects 0 0 0 0 0 0)
+    → (v ≡ verdictOf (fieldsOf 16 (drop 9 bs) (headOf bs))) × (t ≡ tableFrom (fieldsOf 16 (drop 9 bs) (headOf bs)))
+ended bs n p v t e h k = (rw e h, rw e k)
+
+-- a turn of the loop: the field at `at` was accepted, and its rectangle goes into the first free slot
+module _ (bs : List ℕ) (t : Table) (at : ℕ) (inv : Inv-loop bs t at t at) (free : t .count < 16) (more : at < length bs)
+    (v : fieldSays (drop at bs) ≡ Accepted) where
+  field-good : FieldTests (drop at bs)
+  field-good = field-accepted (drop at bs) v
+
+  within-bytes : at + 9 ≤ length bs
+  within-bytes = let d = length-drop at bs in let w = field-good .whole in omega arith
+
+  next-is : placed t (rectOf (drop at bs)) ≡ tableOf (plus (contents t) (rectOf (drop at bs)))
+  next-is =
+      ap (λ x. placed x (rectOf (drop at bs))) (inv .0)
+      ∙ placed-is (contents t) (rectOf (drop at bs)) (let e = slots t in omega arith)
+
+  next-contents : contents (placed t (rectOf (drop at bs))) ≡ plus (contents t) (rectOf (drop at bs))
+  next-contents =
+      ap contents next-is
+      ∙ contents-tableOf (plus (contents t) (rectOf (drop at bs)))
+          (let e = slots t in let l = length-append (contents t .rects) (rectOf (drop at bs) ∷ []) in omega arith)
+
+  next-inv : Inv-loop bs t at (placed t (rectOf (drop at bs))) (at + 9)
+  next-inv =
+      let d = length-drop at bs in
+      let z : 16 - t .count ≡ suc (16 - (t .count + 1)) = omega arith in
+      ( next-is ∙ ap tableOf (sym next-contents)
+      , omega arith
+      , within-bytes
+      , ap (λ x. fieldsOf (16 - (t .count + 1)) (drop (at + 9) bs) x) next-contents
+        ∙ ap (λ x. fieldsOf (16 - (t .count + 1)) x (plus (contents t) (rectOf (drop at bs)))) (sym (drop-drop 9 at bs))
+        ∙ sym (fields-step (16 - (t .count + 1)) (drop at bs) (contents t) (omega arith)
+          ∙ ap (λ x. after x (fieldsOf (16 - (t .count + 1)) (drop 9 (drop at bs)) (plus (contents t) (rectOf (drop at bs))))) v)
+        ∙ ap (λ n. fieldsOf n (drop at bs) (contents t)) (sym z)
+        ∙ inv .3
+      )
+
+-- src/loading.rt:68:5
+loop-holds : tie.Need-loop-holds Inv-loop μ-loop
+unfolding tab
+loop-holds c =
+    let e = c .before .pre .1 in
+    let bs = now (c .before .args .bytes) in
+    rw e (refl, search needs, c .before .pre .0, refl)
+
+-- src/loading.rt:71:13
+refused-requires : tie.Need-refused-requires Inv-loop μ-loop
+refused-requires c κs = search needs
+
+-- src/loading.rt:71:13
+returns : tie.Need-returns Inv-loop μ-loop
+returns c =
+    let s = c .before .before .before in
+    let i = s .loop .inv in
+    let bs = now (s .before .before .args .bytes) in
+    let d = length-drop (s .loop .at) bs in
+    let z : 16 - s .loop .t .count ≡ 0 = omega arith in
+    let e = sym (i .3) ∙ ap (λ n. fieldsOf n (drop (s .loop .at) bs) (contents (s .loop .t))) z ∙ fields-full _ _ (omega arith) in
+    ended bs 6 0 _ _ e (c .refused .ensures .0) (c .refused .ensures .1)
+
+-- src/loading.rt:73:20
+sub-rest : tie.Need-sub-rest Inv-loop μ-loop
+sub-rest c = search needs
+
+-- src/loading.rt:73:20
+part-rest-start : tie.Need-part-rest-start Inv-loop μ-loop
+part-rest-start c = search needs
+
+-- src/loading.rt:73:20
+part-rest-end : tie.Need-part-rest-end Inv-loop μ-loop
+part-rest-end c = search needs
+
+-- src/loading.rt:74:13
+field-requires : tie.Need-field-requires Inv-loop μ-loop
+field-requires c κs = search needs
+
+-- src/loading.rt:76:30
+enum-known-v : tie.Need-enum-known-v Inv-loop μ-loop
+enum-known-v c = search needs
+
+-- src/loading.rt:76:48
+refused-requires-2 : tie.Need-refused-requires-2 Inv-loop μ-loop
+refused-requires-2 c κs = search needs
+
+-- src/loading.rt:76:48
+returns-2 : tie.Need-returns-2 Inv-loop μ-loop
+returns-2 c =
+    let s = c .before .before .before .before .before .before .before .before in
+    let i = s .loop .inv in
+    let bs = now (s .before .before .args .bytes) in
+    let d = length-drop (s .loop .at) bs in
+    let z : 16 - s .loop .t .count ≡ suc (15 - s .loop .t .count) = omega arith in
+    let f = rw (rest-is (s .loop .at) bs) at (c .before .before .before .before .field .ensures) in
+    let v = sym f ∙ c .before .before .v .given .1 in
+    let e =
+        sym (i .3) ∙ ap (λ n. fieldsOf n (drop (s .loop .at) bs) (contents (s .loop .t))) z ∙ fields-step _ _ _ (omega arith)
+        ∙ ap (λ x. after x (fieldsOf (15 - s .loop .t .count) (drop 9 (drop (s .loop .at) bs)) (plus (contents (s .loop .t)) (rectOf (drop (s .loop .at) bs))))) v in
+    ended bs _ _ _ _ e (c .refused2 .ensures .0) (c .refused2 .ensures .1)
+
+enum-told : tie.Need-enum-told Inv-loop μ-loop
+enum-told c = search needs
+
+-- src/loading.rt:79:26
+rect-of-requires : tie.Need-rect-of-requires Inv-loop μ-loop
+rect-of-requires c κs =
+    let s = c .before .before .before .before .before .before in
+    let bs = now (s .before .before .args .bytes) in
+    let f = rw (rest-is (s .loop .at) bs) at (c .before .before .field .ensures) in
+    rw (rest-is (s .loop .at) bs) (field-accepted _ (sym f ∙ c .enum-told .given .1) .whole)
+
+-- src/loading.rt:79:9
+mul-t10 : tie.Need-mul-t10 Inv-loop μ-loop
+mul-t10 c = search needs
+
+-- src/loading.rt:79:9
+element-set-from-t : tie.Need-element-set-from-t Inv-loop μ-loop
+element-set-from-t c = search needs
+
+-- src/loading.rt:80:19
+add-t : tie.Need-add-t Inv-loop μ-loop
+add-t c = search needs
+
+-- src/loading.rt:81:9
+add-at : tie.Need-add-at Inv-loop μ-loop
+add-at c = search needs
+
+-- src/loading.rt:68:5
+loop-less : tie.Need-loop-less Inv-loop μ-loop
+loop-less c =
+    let s = c .before .before .before .before .before .before .before in
+    let bs = now (s .before .before .args .bytes) in
+    let f = rw (rest-is (s .loop .at) bs) at (c .before .before .before .field .ensures) in
+    let w = field-accepted _ (sym f ∙ c .before .enum-told .given .1) .whole in
+    let d = length-drop (s .loop .at) bs in
+    omega arith
+
+-- src/loading.rt:68:5
+loop-again : tie.Need-loop-again Inv-loop μ-loop
+loop-again c =
+    let s = c .before .before .before .before .before .before .before in
+    let bs = now (s .before .before .args .bytes) in
+    let f = rw (rest-is (s .loop .at) bs) at (c .before .before .before .field .ensures) in
+    let r = rw (rest-is (s .loop .at) bs) at (c .rect-of .ensures) in
+    rw r (next-inv bs (s .loop .t) (s .loop .at) (s .loop .inv) (omega arith) (omega arith) (sym f ∙ c .before .enum-told .given .1))
+
+-- src/loading.rt:84:9
+refused-requires-3 : tie.Need-refused-requires-3 Inv-loop μ-loop
+refused-requires-3 c κs = search needs
+
+-- src/loading.rt:84:9
+returns-3 : tie.Need-returns-3 Inv-loop μ-loop
+returns-3 c =
+    let s = c .before .before .before in
+    let i = s .loop .inv in
+    let bs = now (s .before .before .args .bytes) in
+    let d = length-drop (s .loop .at) bs in
+    let k = slots (s .loop .t) in
+    let e = sym (i .3) ∙ fields-end (16 - s .loop .t .count) (drop (s .loop .at) bs) (contents (s .loop .t)) (omega arith) in
+    let n = lt-leb 1 (length (contents (s .loop .t) .rects)) (omega arith) in
+    ended bs 9 0 _ _ (e ∙ ap (λ b. after (ask 9 b Accepted) (loaded (contents (s .loop .t)))) n) (c .refused3 .ensures .0) (c .refused3 .ensures .1)
+
+-- src/loading.rt:60:1
+returns-4 : tie.Need-returns-4 Inv-loop μ-loop
+returns-4 c =
+    let s = c .before .before in
+    let i = s .loop .inv in
+    let bs = now (s .before .before .args .bytes) in
+    let d = length-drop (s .loop .at) bs in
+    let k = slots (s .loop .t) in
+    let e = sym (i .3) ∙ fields-end (16 - s .loop .t .count) (drop (s .loop .at) bs) (contents (s .loop .t)) (omega arith) in
+    let n = le-leb 1 (length (contents (s .loop .t) .rects)) (omega arith) in
+    let o = e ∙ ap (λ b. after (ask 9 b Accepted) (loaded (contents (s .loop .t)))) n in
+    (rw o, rw o (i .0))
+
+pub fields-spec : {M : Type 1} → statement M
+fields-spec =
+    tie.close
+    (tie.spec
+    Inv-loop
+    μ-loop
+    loop-holds
+    refused-requires
+    returns
+    sub-rest
+    part-rest-start
+    part-rest-end
+    field-requires
+    enum-known-v
+    refused-requires-2
+    returns-2
+    enum-told
+    rect-of-requires
+    mul-t10
+    element-set-from-t
+    add-t
+    add-at
+    loop-less
+    loop-again
+    refused-requires-3
+    returns-3
+    returns-4)

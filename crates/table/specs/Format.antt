@@ -1,0 +1,123 @@
+-- The table file: reading it by the questions in their order, and writing it.
+-- Assumes nothing.
+use Prim.Native.Nat.{ℕ, zero, suc, _+_, _*_, _/_, _%_}
+use mathlib.Core.Bool.{Bool, cond, _&&_}
+use mathlib.Core.List.{List, [], _∷_, _++_}
+use lib.Dec.{leb, eqb}
+use lib.ListN.{length, getD, drop}
+use Rattle.arith.specs.Twos.{signed, unsigned}
+use Rattle.table.specs.declared.layout.Rect.{Rect}
+use Rattle.table.specs.declared.layout.Table.{Table}
+use Rattle.table.specs.declared.layout.Verdict.{Verdict}
+use Rattle.table.specs.declared.layout.Verdict.the-variants.{Accepted, Refused}
+use Rattle.table.specs.Contents.{Contents, noRects, contents, tableOf}
+use Rattle.table.specs.Limits.{bitsGood, dropsGood, wordGood, rectGood, valueGood, acceptable}
+use Rattle.table.specs.Answers.{ask}
+
+-- ---- reading
+
+-- what loading comes to: the number and the place of the first question answered no, or the table
+pub data Outcome : Type 0 where
+  refused : (number place : ℕ) → Outcome
+  loaded : Contents → Outcome
+
+-- what comes of questions, where `next` follows if they are all answered yes
+abbrev pub after : Verdict → Outcome → Outcome
+after Accepted next = next
+after (Refused number place) next = refused number place
+
+-- a field begins with this tag and the length 6
+unfoldable pub marked : (tag : ℕ) → List ℕ → Bool
+marked tag bs = leb 3 (length bs) && (eqb (getD bs 0 0) tag && (eqb (getD bs 1 0) 0 && eqb (getD bs 2 0) 6))
+
+-- the numbers of the header, which begins bs
+abbrev pub headOf : List ℕ → Contents
+headOf bs = noRects (getD bs 3 0) (getD bs 4 0) (getD bs 5 0) (getD bs 6 0) (getD bs 7 0) (getD bs 8 0)
+
+-- the rectangle of the field that begins bs: four signed bytes and a signed number of two bytes, the high one first
+abbrev pub rectOf : List ℕ → Rect
+rectOf bs =
+    record
+    { leadrow = signed 8 (getD bs 3 0)
+    ; leadcol = signed 8 (getD bs 4 0)
+    ; trailrow = signed 8 (getD bs 5 0)
+    ; trailcol = signed 8 (getD bs 6 0)
+    ; weight = signed 16 (getD bs 7 0 * 256 + getD bs 8 0)
+    }
+
+-- c with one rectangle more
+abbrev pub plus : Contents → Rect → Contents
+plus c r = record { b = c .b; q1 = c .q1; q2 = c .q2; q3 = c .q3; t = c .t; w = c .w; rects = c .rects ++ (r ∷ []) }
+
+-- questions 3 to 5, on a header's numbers
+unfoldable pub headSays : (b q1 q2 q3 t w : ℕ) → Verdict
+headSays b q1 q2 q3 t w = ask 3 (bitsGood b) (ask 4 (dropsGood b q1 q2 q3) (ask 5 (wordGood t w) Accepted))
+
+-- questions 1 to 5, on the header
+unfoldable pub headerSays : List ℕ → Verdict
+headerSays bs =
+    ask 1 (marked 1 bs)
+    (ask 2 (leb 9 (length bs)) (headSays (getD bs 3 0) (getD bs 4 0) (getD bs 5 0) (getD bs 6 0) (getD bs 7 0) (getD bs 8 0)))
+
+-- questions 7, 2 and 8, on a further field
+unfoldable pub fieldSays : List ℕ → Verdict
+fieldSays bs = ask 7 (marked 2 bs) (ask 2 (leb 9 (length bs)) (ask 8 (rectGood (rectOf bs)) Accepted))
+
+-- question 9, at the end of the file
+abbrev pub atEnd : Contents → Outcome
+atEnd c = after (ask 9 (leb 1 (length (c .rects))) Accepted) (loaded c)
+
+-- the fields after the header while bytes remain, where `left` rectangles more may be read: question 6 asks that there are any
+unfoldable pub fieldsOf : (left : ℕ) → List ℕ → Contents → Outcome
+fieldsOf zero bs c = cond (eqb (length bs) 0) (atEnd c) (refused 6 0)
+fieldsOf (suc left) bs c = cond (eqb (length bs) 0) (atEnd c) (after (fieldSays bs) (fieldsOf left (drop 9 bs) (plus c (rectOf bs))))
+
+-- questions 1 to 9
+unfoldable pub parseOf : List ℕ → Outcome
+parseOf bs = after (headerSays bs) (fieldsOf 16 (drop 9 bs) (headOf bs))
+
+-- question 10, on a table that was read
+abbrev pub fitOf : Outcome → Outcome
+fitOf (refused number place) = refused number place
+fitOf (loaded c) = after (ask 10 (valueGood c) Accepted) (loaded c)
+
+-- loading: questions 1 to 10
+unfoldable pub loadOf : List ℕ → Outcome
+loadOf bs = fitOf (parseOf bs)
+
+-- the verdict on the file
+abbrev pub verdictOf : Outcome → Verdict
+verdictOf (refused number place) = Refused number place
+verdictOf (loaded c) = Accepted
+
+-- the struct that is handed out: the table, or one with no rectangle where the file was refused
+abbrev pub tableFrom : Outcome → Table
+tableFrom (refused number place) = tableOf (noRects 0 0 0 0 0 0)
+tableFrom (loaded c) = tableOf c
+
+-- ---- writing
+
+-- the field of a rectangle
+unfoldable pub encodeRect : Rect → List ℕ
+encodeRect r =
+    2 ∷ 0 ∷ 6
+    ∷ unsigned 8 (r .leadrow) ∷ unsigned 8 (r .leadcol) ∷ unsigned 8 (r .trailrow) ∷ unsigned 8 (r .trailcol)
+    ∷ unsigned 16 (r .weight) / 256 ∷ unsigned 16 (r .weight) % 256 ∷ []
+
+-- the fields of rectangles, one after the other
+unfoldable pub encodeRects : List Rect → List ℕ
+encodeRects [] = []
+encodeRects (r ∷ rs) = encodeRect r ++ encodeRects rs
+
+-- the file of a table: the header's field, then a field for each rectangle
+unfoldable pub encode : Contents → List ℕ
+encode c = 1 ∷ 0 ∷ 6 ∷ c .b ∷ c .q1 ∷ c .q2 ∷ c .q3 ∷ c .t ∷ c .w ∷ encodeRects (c .rects)
+
+-- writing asks 11, and 13: whether the output, of n places, has 9 + 9·(rectangles)
+unfoldable pub writeSays : Table → ℕ → Verdict
+writeSays t n = ask 11 (acceptable t) (ask 13 (leb (9 + 9 * t .count) n) Accepted)
+
+-- the output afterwards: the file, and beyond it what was there; all as it was where the call refused
+abbrev pub overwritten : Verdict → List ℕ → List ℕ → List ℕ
+overwritten Accepted file out = file ++ drop (length file) out
+overwritten (Refused number place) file out = out

@@ -1,0 +1,47 @@
+// A table by value, in the file's own widths.
+ghost use mathlib.Core.Path.{_≡_};
+ghost use Rattle.table.specs.Contents.{noRect};
+
+// A rectangle: rows r + trailrow + 1 to r + leadrow and columns c + trailcol + 1 to c + leadcol of a
+// pixel at row r, column c, with a signed weight.
+#[repr(C)]
+pub struct Rect {
+    pub leadrow: i8,
+    pub leadcol: i8,
+    pub trailrow: i8,
+    pub trailcol: i8,
+    pub weight: i16,
+}
+
+// A table: b bits a sample, drops q1, q2 and q3, shift t, pixel word of w bits, and the rectangles in
+// the first `count` slots. Slots from `count` on are no part of the table.
+#[repr(C)]
+pub struct Table {
+    pub b: u8,
+    pub q1: u8,
+    pub q2: u8,
+    pub q3: u8,
+    pub t: u8,
+    pub w: u8,
+    pub count: usize,
+    pub rects: [Rect; 16],
+}
+
+// Whether a call accepted what it was given, or the number and the place of the question it answered no.
+pub enum Verdict {
+    Accepted,
+    Refused(u32, u32),
+}
+
+// A slot that holds no rectangle.
+pub fn no_rect() -> Rect
+    ensures { λ r. ⌜ r ≡ noRect ⌝ }
+{
+    Rect {
+        leadrow: 0,
+        leadcol: 0,
+        trailrow: 0,
+        trailcol: 0,
+        weight: 0,
+    }
+}
