@@ -9,3 +9,4 @@ pub mod Words
 pub mod Floors
 pub mod Every
 pub mod Logs
+pub mod Parts

@@ -5,7 +5,7 @@ use native.Mathlib.Omega.{arith}
 use mathlib.Core.Path.{_≡_, refl, sym, subst}
 use mathlib.Core.Bool.{Bool, true, false, _&&_}
 use mathlib.Core.List.{List}
-use lib.Dec.{T, leb, leb→le}
+use lib.Dec.{T, leb, ltb, leb→le, ltb→lt}
 use lib.ListN.{length, getD}
 use borrow.Author.Tests.{leb-true}
 use mir.Facts.{and-yes}
@@ -59,6 +59,16 @@ head-bounds t h =
     let w = and-yes (leb (t .t) 31) (leb 8 (t .w) && leb (t .w) 32) (subst T (sym (h .word)) tt) in
     let v = and-yes (leb 8 (t .w)) (leb (t .w) 32) (w .1) in
     record { bits = leb→le _ _ (b .1); shift = leb→le _ _ (w .0); word-low = leb→le _ _ (v .0); word-high = leb→le _ _ (v .1) }
+
+-- the bounds on the drops
+pub drops-bounds : (b q1 q2 q3 : ℕ) → bitsGood b ≡ true → dropsGood b q1 q2 q3 ≡ true → (q1 ≤ 11) × (q2 ≤ 8) × (q3 ≤ 8)
+unfolding bitsGood dropsGood
+drops-bounds b q1 q2 q3 e d =
+    let x = leb→le b 12 (and-yes (leb 1 b) (leb b 12) (subst T (sym e) tt) .1) in
+    let y = and-yes (ltb q1 b) (leb q2 8 && leb q3 8) (subst T (sym d) tt) in
+    let z = and-yes (leb q2 8) (leb q3 8) (y .1) in
+    let l = ltb→lt q1 b (y .0) in
+    (omega arith, leb→le _ _ (z .0), leb→le _ _ (z .1))
 
 -- a field that questions 7, 2 and 8 accept
 pub record FieldTests (bs : List ℕ) : Type 0 where

@@ -4,3 +4,7 @@ pub mod Values
 pub mod Asked
 pub mod Structs
 pub mod Fields
+pub mod Bounds
+pub mod Sound
+pub mod Encoded
+pub mod Granted

@@ -13,7 +13,7 @@ use Rattle.table.specs.Contents.{Contents, noRect, contents, tableOf}
 use Rattle.table.specs.Format.{plus}
 
 -- c with other rectangles
-abbrev with-rects : Contents → List Rect → Contents
+abbrev pub with-rects : Contents → List Rect → Contents
 with-rects c rs = record { b = c .b; q1 = c .q1; q2 = c .q2; q3 = c .q3; t = c .t; w = c .w; rects = rs }
 
 -- the struct of up to 16 rectangles says what it was made of

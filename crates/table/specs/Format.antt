@@ -1,6 +1,6 @@
 -- The table file: reading it by the questions in their order, and writing it.
 -- Assumes nothing.
-use Prim.Native.Nat.{ℕ, zero, suc, _+_, _*_, _/_, _%_}
+use Prim.Native.Nat.{ℕ, zero, suc, _+_, _*_, _/_, _%_, _<_}
 use mathlib.Core.Bool.{Bool, cond, _&&_}
 use mathlib.Core.List.{List, [], _∷_, _++_}
 use lib.Dec.{leb, eqb}
@@ -10,9 +10,13 @@ use Rattle.table.specs.declared.layout.Rect.{Rect}
 use Rattle.table.specs.declared.layout.Table.{Table}
 use Rattle.table.specs.declared.layout.Verdict.{Verdict}
 use Rattle.table.specs.declared.layout.Verdict.the-variants.{Accepted, Refused}
-use Rattle.table.specs.Contents.{Contents, noRects, contents, tableOf}
-use Rattle.table.specs.Limits.{bitsGood, dropsGood, wordGood, rectGood, valueGood, acceptable}
+use Rattle.table.specs.Contents.{Contents, noRects, tableOf}
+use Rattle.table.specs.Limits.{bitsGood, dropsGood, wordGood, rectGood, valueGood}
 use Rattle.table.specs.Answers.{ask}
+
+-- a file is a sequence of bytes
+abbrev pub Bytes : List ℕ → Type 0
+Bytes bs = (k : ℕ) → k < length bs → getD bs k 0 < 256
 
 -- ---- reading
 
@@ -109,15 +113,10 @@ unfoldable pub encodeRects : List Rect → List ℕ
 encodeRects [] = []
 encodeRects (r ∷ rs) = encodeRect r ++ encodeRects rs
 
+-- the field of the header
+unfoldable pub encodeHead : Contents → List ℕ
+encodeHead c = 1 ∷ 0 ∷ 6 ∷ c .b ∷ c .q1 ∷ c .q2 ∷ c .q3 ∷ c .t ∷ c .w ∷ []
+
 -- the file of a table: the header's field, then a field for each rectangle
 unfoldable pub encode : Contents → List ℕ
-encode c = 1 ∷ 0 ∷ 6 ∷ c .b ∷ c .q1 ∷ c .q2 ∷ c .q3 ∷ c .t ∷ c .w ∷ encodeRects (c .rects)
-
--- writing asks 11, and 13: whether the output, of n places, has 9 + 9·(rectangles)
-unfoldable pub writeSays : Table → ℕ → Verdict
-writeSays t n = ask 11 (acceptable t) (ask 13 (leb (9 + 9 * t .count) n) Accepted)
-
--- the output afterwards: the file, and beyond it what was there; all as it was where the call refused
-abbrev pub overwritten : Verdict → List ℕ → List ℕ → List ℕ
-overwritten Accepted file out = file ++ drop (length file) out
-overwritten (Refused number place) file out = out
+encode c = encodeHead c ++ encodeRects (c .rects)

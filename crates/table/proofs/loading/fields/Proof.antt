@@ -14,11 +14,11 @@ use Rattle.table.specs.declared.layout.Verdict.{Verdict}
 use Rattle.table.specs.declared.layout.Table.{Table}
 use Rattle.arith.specs.Tab.{tab}
 use denote.Ref.{now}
-use lib.Seq.{take-all, drop-drop}
-use lib.ListN.{take, length-drop}
+use lib.Seq.{drop-drop}
+use Rattle.arith.proofs.Parts.{tail-is}
+use lib.ListN.{length-drop}
 use mathlib.Core.Path.{refl, sym, ap, _∙_}
 use native.Mathlib.Omega.{arith}
-use native.Mathlib.Nat.{le-of-eq}
 use mathlib.Core.List.{List, []}
 use Rattle.table.specs.Format.{Outcome, headOf, fieldsOf}
 use Rattle.table.specs.Contents.{Contents, contents, tableOf}
@@ -40,10 +40,6 @@ Inv-loop bytes t₀ at₀ t at =    (t ≡ tableOf (contents t)) × (t .count �
 
 abbrev μ-loop : tie.MeasureT-loop
 μ-loop bytes t₀ at₀ t at = length bytes - at
-
--- the part of the bytes from `at` on
-rest-is : (at : ℕ) (bs : List ℕ) → take (length bs - at) (drop at bs) ≡ drop at bs
-rest-is at bs = take-all (length bs - at) (drop at bs) (le-of-eq (length-drop at bs))
 
 -- what the loop has come to, where it ends in a refusal
 ended : (bs : List ℕ) (n p : ℕ) (v : Verdict) (t : Table) → fieldsOf 16 (drop 9 bs) (headOf bs) ≡ refused n p
@@ -141,7 +137,7 @@ returns-2 c =
     let bs = now (s .before .before .args .bytes) in
     let d = length-drop (s .loop .at) bs in
     let z : 16 - s .loop .t .count ≡ suc (15 - s .loop .t .count) = omega arith in
-    let f = rw (rest-is (s .loop .at) bs) at (c .before .before .before .before .field .ensures) in
+    let f = rw (tail-is (s .loop .at) bs) at (c .before .before .before .before .field .ensures) in
     let v = sym f ∙ c .before .before .v .given .1 in
     let e =
         sym (i .3) ∙ ap (λ n. fieldsOf n (drop (s .loop .at) bs) (contents (s .loop .t))) z ∙ fields-step _ _ _ (omega arith)
@@ -156,8 +152,8 @@ rect-of-requires : tie.Need-rect-of-requires Inv-loop μ-loop
 rect-of-requires c κs =
     let s = c .before .before .before .before .before .before in
     let bs = now (s .before .before .args .bytes) in
-    let f = rw (rest-is (s .loop .at) bs) at (c .before .before .field .ensures) in
-    rw (rest-is (s .loop .at) bs) (field-accepted _ (sym f ∙ c .enum-told .given .1) .whole)
+    let f = rw (tail-is (s .loop .at) bs) at (c .before .before .field .ensures) in
+    rw (tail-is (s .loop .at) bs) (field-accepted _ (sym f ∙ c .enum-told .given .1) .whole)
 
 -- src/loading.rt:79:9
 mul-t10 : tie.Need-mul-t10 Inv-loop μ-loop
@@ -180,7 +176,7 @@ loop-less : tie.Need-loop-less Inv-loop μ-loop
 loop-less c =
     let s = c .before .before .before .before .before .before .before in
     let bs = now (s .before .before .args .bytes) in
-    let f = rw (rest-is (s .loop .at) bs) at (c .before .before .before .field .ensures) in
+    let f = rw (tail-is (s .loop .at) bs) at (c .before .before .before .field .ensures) in
     let w = field-accepted _ (sym f ∙ c .before .enum-told .given .1) .whole in
     let d = length-drop (s .loop .at) bs in
     omega arith
@@ -190,8 +186,8 @@ loop-again : tie.Need-loop-again Inv-loop μ-loop
 loop-again c =
     let s = c .before .before .before .before .before .before .before in
     let bs = now (s .before .before .args .bytes) in
-    let f = rw (rest-is (s .loop .at) bs) at (c .before .before .before .field .ensures) in
-    let r = rw (rest-is (s .loop .at) bs) at (c .rect-of .ensures) in
+    let f = rw (tail-is (s .loop .at) bs) at (c .before .before .before .field .ensures) in
+    let r = rw (tail-is (s .loop .at) bs) at (c .rect-of .ensures) in
     rw r (next-inv bs (s .loop .t) (s .loop .at) (s .loop .inv) (omega arith) (omega arith) (sym f ∙ c .before .enum-told .given .1))
 
 -- src/loading.rt:84:9

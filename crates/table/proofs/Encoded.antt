@@ -1,0 +1,43 @@
+-- The length of a table's file, and one field more.
+-- Assumes nothing.
+use Prim.Native.Nat.{ℕ, _+_, _*_}
+use native.Mathlib.Omega.{arith}
+use mathlib.Core.Path.{_≡_, refl, sym, ap, _∙_}
+use mathlib.Core.List.{List, [], _∷_, _++_, append-assoc, append-nil}
+use lib.ListN.{length, length-append}
+use Rattle.table.specs.declared.layout.Rect.{Rect}
+use Rattle.table.specs.declared.layout.Table.{Table}
+use Rattle.table.specs.Contents.{Contents, contents}
+use Rattle.table.specs.Format.{encodeHead, encodeRect, encodeRects, encode}
+use Rattle.table.proofs.Values.{slots}
+
+pub length-rect : (r : Rect) → length (encodeRect r) ≡ 9
+unfolding encodeRect
+length-rect r = refl
+
+pub length-rects : (rs : List Rect) → length (encodeRects rs) ≡ 9 * length rs
+unfolding encodeRects
+length-rects [] = refl
+length-rects (r ∷ rs) =
+    let a = length-append (encodeRect r) (encodeRects rs) in
+    let b = length-rect r in
+    let c = length-rects rs in
+    omega arith
+
+pub length-head : (c : Contents) → length (encodeHead c) ≡ 9
+unfolding encodeHead
+length-head c = refl
+
+pub length-file : (t : Table) → length (encode (contents t)) ≡ 9 + 9 * t .count
+unfolding encode
+length-file t =
+    let a = length-append (encodeHead (contents t)) (encodeRects (contents t .rects)) in
+    let b = length-head (contents t) in
+    let c = length-rects (contents t .rects) in
+    let d = slots t in
+    omega arith
+
+pub rects-snoc : (rs : List Rect) (r : Rect) → encodeRects (rs ++ (r ∷ [])) ≡ encodeRects rs ++ encodeRect r
+unfolding encodeRects
+rects-snoc [] r = append-nil (encodeRect r)
+rects-snoc (x ∷ rs) r = ap (λ l. encodeRect x ++ l) (rects-snoc rs r) ∙ sym (append-assoc (encodeRect x) (encodeRects rs) (encodeRect r))

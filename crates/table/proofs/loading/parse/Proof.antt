@@ -1,0 +1,69 @@
+use Rattle.table.proofs.Asked.{header-accepted}
+use Rattle.table.specs.declared.layout.Verdict.{Verdict}
+use Rattle.table.specs.Format.{Outcome, after, headOf, headerSays, fieldsOf, parseOf, verdictOf, tableFrom}
+use lib.ListN.{drop}
+use Prim.Native.Nat.{ℕ}
+use mathlib.Core.List.{List}
+use mathlib.Core.Path.{_≡_, sym, ap, _∙_}
+use borrow.Author.Needs.{needs}
+use Rattle.table.proofs.loading.parse.Statement.{statement}
+use Rattle.table.proofs.loading.parse.Tie as tie
+use Rattle.table.proofs.loading.parse.Reads as reads
+use Rattle.table.proofs.loading.parse.Lts as lts
+use Rattle.table.proofs.loading.fields.Reads as fields-reads
+use Rattle.table.proofs.loading.head_of.Reads as head-of-reads
+use Rattle.table.proofs.loading.refused.Reads as refused-reads
+use Rattle.table.proofs.reading.header.Reads as header-reads
+
+parse-is : (bs : List ℕ) {v : Verdict} → headerSays bs ≡ v → parseOf bs ≡ after v (fieldsOf 16 (drop 9 bs) (headOf bs))
+unfolding parseOf
+parse-is bs e = ap (λ v. after v (fieldsOf 16 (drop 9 bs) (headOf bs))) e
+
+-- src/loading.rt:97:9
+header-requires : tie.Need-header-requires
+header-requires c κs = search needs
+
+-- src/loading.rt:99:26
+enum-known-v : tie.Need-enum-known-v
+enum-known-v c = search needs
+
+-- src/loading.rt:99:44
+refused-requires : tie.Need-refused-requires
+refused-requires c κs = search needs
+
+-- src/loading.rt:100:44
+enum-told : tie.Need-enum-told
+enum-told c = search needs
+
+-- src/loading.rt:100:44
+head-of-requires : tie.Need-head-of-requires
+head-of-requires c κs = header-accepted _ (sym (c .before .before .header .ensures) ∙ c .enum-told .given .1) .whole
+
+-- src/loading.rt:100:30
+fields-requires : tie.Need-fields-requires
+fields-requires c κs = (header-accepted _ (sym (c .before .before .before .header .ensures) ∙ c .before .enum-told .given .1) .whole, c .head-of .ensures)
+
+-- src/loading.rt:93:1
+returns : tie.Need-returns
+returns c =
+    let e = parse-is _ (sym (c .before .before .before .before .header .ensures) ∙ c .before .before .v .given .1) in
+    (rw e (c .refused .ensures .0), rw e (c .refused .ensures .1))
+
+-- src/loading.rt:93:1
+returns-2 : tie.Need-returns-2
+returns-2 c =
+    let e = parse-is _ (sym (c .before .before .before .before .header .ensures) ∙ c .before .before .enum-told .given .1) in
+    (rw e (c .fields .ensures .0), rw e (c .fields .ensures .1))
+
+pub parse-spec : {M : Type 1} → statement M
+parse-spec =
+    tie.close
+    (tie.spec
+    header-requires
+    enum-known-v
+    refused-requires
+    enum-told
+    head-of-requires
+    fields-requires
+    returns
+    returns-2)

@@ -1,0 +1,71 @@
+use Rattle.table.proofs.Encoded.{length-file}
+use Rattle.table.proofs.Granted.{granted}
+use Rattle.table.specs.Writing.{writeSays, outputOf}
+use Rattle.table.specs.Format.{encode}
+use Rattle.table.specs.Contents.{contents}
+use denote.Ref.{now}
+use borrow.Author.Tests.{le-leb, lt-leb, not-true, not-false}
+use lib.ListN.{drop}
+use mathlib.Core.List.{_++_}
+use mathlib.Core.Path.{refl, sym, ap, _∙_}
+use Prim.Native.Nat.{_≤_}
+use native.Mathlib.Omega.{arith}
+use borrow.Author.Needs.{needs}
+use Rattle.table.proofs.writing.write.Statement.{statement}
+use Rattle.table.proofs.writing.write.Tie as tie
+use Rattle.table.proofs.writing.write.Reads as reads
+use Rattle.table.proofs.writing.write.Lts as lts
+use Rattle.table.proofs.accept.accepted.Reads as accepted-reads
+use Rattle.table.proofs.writing.put.Reads as put-reads
+
+-- src/writing.rt:76:9
+accepted-requires : tie.Need-accepted-requires
+accepted-requires c κs = search needs
+
+-- src/writing.rt:77:9
+returns : tie.Need-returns
+unfolding writeSays outputOf
+returns c =
+    let e = sym (c .before .accepted .ensures) ∙ not-true _ (c .if1 .taken) in
+    (rw e, rw e)
+
+-- src/writing.rt:80:17
+mul-n : tie.Need-mul-n
+mul-n c = let g = granted _ (sym (c .before .accepted .ensures) ∙ not-false _ (c .if1 .left)) .few in omega arith
+
+-- src/writing.rt:80:13
+add-n : tie.Need-add-n
+add-n c = let g = granted _ (sym (c .before .accepted .ensures) ∙ not-false _ (c .if1 .left)) .few in omega arith
+
+-- src/writing.rt:82:9
+returns-2 : tie.Need-returns-2
+unfolding writeSays outputOf
+returns-2 c =
+    let e = sym (c .before .before .accepted .ensures) ∙ not-false _ (c .before .if1 .left) in
+    let n = lt-leb _ _ (c .if2 .taken) in
+    (rw (e, n), rw (e, n))
+
+-- src/writing.rt:84:5
+put-requires : tie.Need-put-requires
+put-requires c κs =
+    let g = granted _ (sym (c .before .before .before .accepted .ensures) ∙ not-false _ (c .before .before .if1 .left)) in
+    (g .few, c .before .if2 .left)
+
+-- src/writing.rt:72:1
+same-length : tie.Need-same-length
+same-length c = search needs
+
+-- src/writing.rt:72:1
+returns-3 : tie.Need-returns-3
+unfolding writeSays outputOf
+returns-3 c =
+    let s = c .before .before .before .before in
+    let t = s .before .before .before .before .args .t in
+    let e = sym (s .before .before .accepted .ensures) ∙ not-false _ (s .before .if1 .left) in
+    let n = le-leb _ _ (s .if2 .left) in
+    (rw (e, n), rw (e, n, length-file t) (c .before .before .put .ensures))
+
+pub write-spec : {M : Type 1} → statement M
+write-spec =
+    tie.close
+    (tie.spec accepted-requires returns mul-n add-n returns-2 put-requires same-length returns-3)
