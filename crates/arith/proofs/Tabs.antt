@@ -55,9 +55,9 @@ module _ {ℓ} {A : Type ℓ} where
       (let e = length-set (tab m (λ k. getD l k d)) (length l) a in let f = length-tab m (λ k. getD l k d) in omega arith)
     where
       same : (k : ℕ) → k < m → getD (set (tab m (λ k. getD l k d)) (length l) a) k d ≡ getD (tab m (λ k. getD (l ++ (a ∷ [])) k d)) k d
-      same k p = elim (ℕ-discrete k (length l))
-          [ yes e ↦ rw e (getD-set-same (tab m (λ k. getD l k d)) (length l) a d (let f = length-tab m (λ k. getD l k d) in omega arith)
-              ∙ sym (getD-tab m _ (length l) d h ∙ getD-append-seam l a [] d))
-          | no n ↦ getD-set-other (tab m (λ k. getD l k d)) (length l) k a d n ∙ getD-tab m _ k d p
-              ∙ sym (getD-tab m _ k d p ∙ getD-snoc l a d k n)
-          ]
+      same k p = elim (ℕ-discrete k (length l)) [
+        | yes e ↦ rw e (getD-set-same (tab m (λ k. getD l k d)) (length l) a d (let f = length-tab m (λ k. getD l k d) in omega arith)
+            ∙ sym (getD-tab m _ (length l) d h ∙ getD-append-seam l a [] d))
+        | no n ↦ getD-set-other (tab m (λ k. getD l k d)) (length l) k a d n ∙ getD-tab m _ k d p
+            ∙ sym (getD-tab m _ k d p ∙ getD-snoc l a d k n)
+      ]

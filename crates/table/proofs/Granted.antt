@@ -46,19 +46,19 @@ granted t e =
     let f = and-yes (leb (t .count) 16) _ (d .1) in
     let g = and-yes (all (t .count) (slotGood t)) (valueGood (contents t)) (f .1) in
     let slot : (k : ℕ) → k < t .count → T (rectGood (rect t k)) × T (fitsSigned 16 (rect t k .weight)) =
-        λ k l. and-yes (rectGood (rect t k)) (fitsSigned 16 (rect t k .weight)) (all-at (t .count) (slotGood t) (g .0) k l) in
-    record
-    { bits-pos = leb→le _ _ (a1 .0)
-    ; bits-most = leb→le _ _ (a1 .1)
-    ; q1-less = ltb→lt _ _ (b1 .0)
-    ; q2-most = leb→le _ _ (b2 .0)
-    ; q3-most = leb→le _ _ (b2 .1)
-    ; shift-most = leb→le _ _ (c1 .0)
-    ; word-least = leb→le _ _ (c2 .0)
-    ; word-most = leb→le _ _ (c2 .1)
-    ; some = leb→le _ _ (d .0)
-    ; few = leb→le _ _ (f .0)
-    ; bounds = λ k l. rect-bounds (rect t k) (slot k l .0)
-    ; weight = λ k l. slot k l .1
-    ; value = g .1
+    λ k l. and-yes (rectGood (rect t k)) (fitsSigned 16 (rect t k .weight)) (all-at (t .count) (slotGood t) (g .0) k l) in
+    record {
+      bits-pos = leb→le _ _ (a1 .0);
+      bits-most = leb→le _ _ (a1 .1);
+      q1-less = ltb→lt _ _ (b1 .0);
+      q2-most = leb→le _ _ (b2 .0);
+      q3-most = leb→le _ _ (b2 .1);
+      shift-most = leb→le _ _ (c1 .0);
+      word-least = leb→le _ _ (c2 .0);
+      word-most = leb→le _ _ (c2 .1);
+      some = leb→le _ _ (d .0);
+      few = leb→le _ _ (f .0);
+      bounds = λ k l. rect-bounds (rect t k) (slot k l .0);
+      weight = λ k l. slot k l .1;
+      value = g .1;
     }

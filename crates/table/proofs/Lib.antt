@@ -8,3 +8,6 @@ pub mod Bounds
 pub mod Sound
 pub mod Encoded
 pub mod Granted
+pub mod Complete
+pub mod Numbers
+pub mod Theorems

@@ -80,12 +80,17 @@ field-again bs byte f =
     let y = at 8 (omega arith) in
     let two = unsigned-signed 16 (getD bs 7 0 * 256 + getD bs 8 0) (omega arith) (omega arith) in
     sym (nine bs w
-    ∙ rw
-      ( m .0, m .1, m .2
-      , one 3 (omega arith), one 4 (omega arith), one 5 (omega arith), one 6 (omega arith)
-      , two
-      )
-      (ap₂ (λ h l. 2 ∷ 0 ∷ 6 ∷ getD bs 3 0 ∷ getD bs 4 0 ∷ getD bs 5 0 ∷ getD bs 6 0 ∷ h ∷ l ∷ drop 9 bs) (omega arith) (omega arith)))
+    ∙ rw (
+      m .0,
+      m .1,
+      m .2,
+      one 3 (omega arith),
+      one 4 (omega arith),
+      one 5 (omega arith),
+      one 6 (omega arith),
+      two,
+    )
+    (ap₂ (λ h l. 2 ∷ 0 ∷ 6 ∷ getD bs 3 0 ∷ getD bs 4 0 ∷ getD bs 5 0 ∷ getD bs 6 0 ∷ h ∷ l ∷ drop 9 bs) (omega arith) (omega arith)))
 
 -- the weight that two bytes carry has 16 bits
 weight-fits : (bs : List ℕ) → Bytes bs → 9 ≤ length bs → T (fitsSigned 16 (rectOf bs .weight))
@@ -119,48 +124,49 @@ rest-none : (left : ℕ) (bs : List ℕ) (c d : Contents) → length bs ≡ 0 �
 unfolding encodeRects
 rest-none left bs c d z e =
     let h = end-loaded c d e in
-    record
-    { rects = []
-    ; is = sym (h .1) ∙ ap (with-rects c) (sym (append-nil (c .rects)))
-    ; few = omega arith
-    ; some = subst (λ x. 1 ≤ length (x .rects)) (h .1) (h .0)
-    ; good = λ k l. absurd (omega arith)
-    ; weights = λ _ k l. absurd (omega arith)
-    ; again = λ _. sym (no-bytes bs z)
+    record {
+      rects = [];
+      is = sym (h .1) ∙ ap (with-rects c) (sym (append-nil (c .rects)));
+      few = omega arith;
+      some = subst (λ x. 1 ≤ length (x .rects)) (h .1) (h .0);
+      good = λ k l. absurd (omega arith);
+      weights = λ _ k l. absurd (omega arith);
+      again = λ _. sym (no-bytes bs z);
     }
 
 rest-more : (left : ℕ) (bs : List ℕ) (c d : Contents) → FieldTests bs → Rest left (drop 9 bs) (plus c (rectOf bs)) d → Rest (suc left) bs c d
 unfolding encodeRects
 rest-more left bs c d f r =
-    record
-    { rects = rectOf bs ∷ r .rects
-    ; is = r .is ∙ ap (with-rects c) (append-assoc (c .rects) (rectOf bs ∷ []) (r .rects))
-    ; few = let h = r .few in omega arith
-    ; some = r .some
-    ; good = good
-    ; weights = weights
-    ; again = λ byte. ap (λ l. encodeRect (rectOf bs) ++ l) (r .again (bytes-drop 9 bs byte)) ∙ field-again bs byte f
+    record {
+      rects = rectOf bs ∷ r .rects;
+      is = r .is ∙ ap (with-rects c) (append-assoc (c .rects) (rectOf bs ∷ []) (r .rects));
+      few = let h = r .few in omega arith;
+      some = r .some;
+      good = good;
+      weights = weights;
+      again = λ byte. ap (λ l. encodeRect (rectOf bs) ++ l) (r .again (bytes-drop 9 bs byte)) ∙ field-again bs byte f;
     }
   where
     good : (k : ℕ) → k < suc (length (r .rects)) → rectGood (getD (rectOf bs ∷ r .rects) k noRect) ≡ true
     good zero h = f .edges
     good (suc k) h = r .good k (omega arith)
+
     weights : Bytes bs → (k : ℕ) → k < suc (length (r .rects)) → T (fitsSigned 16 (getD (rectOf bs ∷ r .rects) k noRect .weight))
     weights byte zero h = weight-fits bs byte (f .whole)
     weights byte (suc k) h = r .weights (bytes-drop 9 bs byte) k (omega arith)
 
 pub fields-sound : (left : ℕ) (bs : List ℕ) (c d : Contents) → fieldsOf left bs c ≡ loaded d → Rest left bs c d
 fields-sound zero bs c d e =
-    elim (eq-zero-or-pos (length bs))
-    [ inl z ↦ rest-none zero bs c d z (sym (fields-end zero bs c z) ∙ e)
-    | inr p ↦ absurd (let o = sym (fields-full bs c p) ∙ e in let z : _≡_ {A = ℕ} 0 1 = cc in omega arith)
+    elim (eq-zero-or-pos (length bs)) [
+      | inl z ↦ rest-none zero bs c d z (sym (fields-end zero bs c z) ∙ e)
+      | inr p ↦ absurd (let o = sym (fields-full bs c p) ∙ e in let z : _≡_ {A = ℕ} 0 1 = cc in omega arith)
     ]
 fields-sound (suc left) bs c d e =
-    elim (eq-zero-or-pos (length bs))
-    [ inl z ↦ rest-none (suc left) bs c d z (sym (fields-end (suc left) bs c z) ∙ e)
-    | inr p ↦
-        let a = after-loaded (fieldSays bs) _ d (sym (fields-step left bs c p) ∙ e) in
-        rest-more left bs c d (field-accepted bs (a .0)) (fields-sound left (drop 9 bs) (plus c (rectOf bs)) d (a .1))
+    elim (eq-zero-or-pos (length bs)) [
+      | inl z ↦ rest-none (suc left) bs c d z (sym (fields-end (suc left) bs c z) ∙ e)
+      | inr p ↦
+          let a = after-loaded (fieldSays bs) _ d (sym (fields-step left bs c p) ∙ e) in
+          rest-more left bs c d (field-accepted bs (a .0)) (fields-sound left (drop 9 bs) (plus c (rectOf bs)) d (a .1))
     ]
 
 -- ---- the whole file
@@ -178,15 +184,15 @@ parsed : (bs : List ℕ) (c : Contents) → HeaderTests bs → Rest 16 (drop 9 b
 unfolding encodeHead encode
 parsed bs c h r =
     subst (Parsed bs) (sym (r .is))
-    record
-    { head = h .head
-    ; some = subst (λ x. 1 ≤ length (x .rects)) (r .is) (r .some)
-    ; most = r .few
-    ; good = r .good
-    ; weights = λ byte. r .weights (bytes-drop 9 bs byte)
-    ; again = λ byte.
-        let m = mark-bytes 1 bs (h .mark) in
-        sym (nine bs (h .whole) ∙ rw (m .0, m .1, m .2) (ap (λ l. 1 ∷ 0 ∷ 6 ∷ getD bs 3 0 ∷ getD bs 4 0 ∷ getD bs 5 0 ∷ getD bs 6 0 ∷ getD bs 7 0 ∷ getD bs 8 0 ∷ l) (sym (r .again (bytes-drop 9 bs byte)))))
+    record {
+      head = h .head;
+      some = subst (λ x. 1 ≤ length (x .rects)) (r .is) (r .some);
+      most = r .few;
+      good = r .good;
+      weights = λ byte. r .weights (bytes-drop 9 bs byte);
+      again = λ byte.
+          let m = mark-bytes 1 bs (h .mark) in
+          sym (nine bs (h .whole) ∙ rw (m .0, m .1, m .2) (ap (λ l. 1 ∷ 0 ∷ 6 ∷ getD bs 3 0 ∷ getD bs 4 0 ∷ getD bs 5 0 ∷ getD bs 6 0 ∷ getD bs 7 0 ∷ getD bs 8 0 ∷ l) (sym (r .again (bytes-drop 9 bs byte)))));
     }
 
 pub parse-sound : (bs : List ℕ) (c : Contents) → parseOf bs ≡ loaded c → Parsed bs c

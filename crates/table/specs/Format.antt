@@ -41,12 +41,12 @@ headOf bs = noRects (getD bs 3 0) (getD bs 4 0) (getD bs 5 0) (getD bs 6 0) (get
 -- the rectangle of the field that begins bs: four signed bytes and a signed number of two bytes, the high one first
 abbrev pub rectOf : List ℕ → Rect
 rectOf bs =
-    record
-    { leadrow = signed 8 (getD bs 3 0)
-    ; leadcol = signed 8 (getD bs 4 0)
-    ; trailrow = signed 8 (getD bs 5 0)
-    ; trailcol = signed 8 (getD bs 6 0)
-    ; weight = signed 16 (getD bs 7 0 * 256 + getD bs 8 0)
+    record {
+      leadrow = signed 8 (getD bs 3 0);
+      leadcol = signed 8 (getD bs 4 0);
+      trailrow = signed 8 (getD bs 5 0);
+      trailcol = signed 8 (getD bs 6 0);
+      weight = signed 16 (getD bs 7 0 * 256 + getD bs 8 0);
     }
 
 -- c with one rectangle more

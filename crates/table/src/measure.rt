@@ -77,7 +77,13 @@ pub fn loss(t: Table, r: Rect) -> Figure
     }
     let n = columns(r) as u64;
     let area = rows(r) as u64 * n;
-    Figure::Loss(dropped(area, n, arith::power(t.q1), arith::power(t.q2), arith::power(t.q3)))
+    Figure::Loss(dropped(
+        area,
+        n,
+        arith::power(t.q1),
+        arith::power(t.q2),
+        arith::power(t.q3),
+    ))
 }
 
 // What may be dropped of a window of this area and n columns, by cuts of p1, p2 and p3.

@@ -55,11 +55,14 @@ returns-4 c =
     let s = c .before .before .before .before .before .before in
     let t = s .before .before .before .args .t in
     let h = head-accepted (t .b) (t .q1) (t .q2) (t .q3) (t .t) (t .w) (sym (s .before .before .head .ensures) ∙ s .enum-told2 .given .1) in
-    rw
-    ( acceptable-slots t, h .bits, h .drops, h .word
-    , le-leb _ _ (c .before .before .before .before .if1 .left)
-    , le-leb _ _ (c .before .before .if2 .left)
-    , sym (c .before .rects-good .ensures) ∙ not-true _ (c .if3 .taken)
+    rw (
+      acceptable-slots t,
+      h .bits,
+      h .drops,
+      h .word,
+      le-leb _ _ (c .before .before .before .before .if1 .left),
+      le-leb _ _ (c .before .before .if2 .left),
+      sym (c .before .rects-good .ensures) ∙ not-true _ (c .if3 .taken),
     )
 
 -- src/accept.rt:31:5
@@ -76,11 +79,14 @@ returns-5 c =
     let s = c .before .before .before .before .before .before .before in
     let t = s .before .before .before .args .t in
     let h = head-accepted (t .b) (t .q1) (t .q2) (t .q3) (t .t) (t .w) (sym (s .before .before .head .ensures) ∙ s .enum-told2 .given .1) in
-    rw
-    ( acceptable-slots t, h .bits, h .drops, h .word
-    , le-leb _ _ (c .before .before .before .before .before .if1 .left)
-    , le-leb _ _ (c .before .before .before .if2 .left)
-    , sym (c .before .before .rects-good .ensures) ∙ not-false _ (c .before .if3 .left)
+    rw (
+      acceptable-slots t,
+      h .bits,
+      h .drops,
+      h .word,
+      le-leb _ _ (c .before .before .before .before .before .if1 .left),
+      le-leb _ _ (c .before .before .before .if2 .left),
+      sym (c .before .before .rects-good .ensures) ∙ not-false _ (c .before .if3 .left),
     )
     (c .value-good .ensures)
 

@@ -42,7 +42,7 @@ rect-good-requires c κs = search needs
 
 -- src/accept.rt:44:13
 returns : tie.Need-returns Inv-loop μ-loop
-returns c =    let s = c .before .before .before .before in
+returns c = let s = c .before .before .before .before in
     let t = s .before .args .t1 in
     let k = s .loop .k in
     let e : rectGood (rect t k) ≡ false = sym (c .before .rect-good .ensures .0) ∙ not-true _ (c .if1 .taken) in
@@ -58,7 +58,7 @@ loop-less c = search needs
 
 -- src/accept.rt:41:5
 loop-again : tie.Need-loop-again Inv-loop μ-loop
-loop-again c =    let s = c .before .before .before .before in
+loop-again c = let s = c .before .before .before .before in
     let t = s .before .args .t1 in
     let k = s .loop .k in
     let e : rectGood (rect t k) ≡ true = sym (c .before .rect-good .ensures .0) ∙ not-false _ (c .if1 .left) in
@@ -66,7 +66,7 @@ loop-again c =    let s = c .before .before .before .before in
 
 -- src/accept.rt:35:1
 returns-2 : tie.Need-returns-2 Inv-loop μ-loop
-returns-2 c =    let i = c .before .loop .inv in
+returns-2 c = let i = c .before .loop .inv in
     sym (ap (λ n. all n (slotGood (c .before .before .args .t1))) (omega arith) ∙ i .1)
 
 pub rects-good-spec : {M : Type 1} → statement M

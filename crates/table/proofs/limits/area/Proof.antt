@@ -32,7 +32,7 @@ mul-result c = let h = mul-le-mul (c .before .rows .ensures .1) (c .columns .ens
 
 -- src/limits.rt:101:1
 returns : tie.Need-returns
-returns c =    let h = mul-le-mul (c .before .rows .ensures .1) (c .columns .ensures .1) in
+returns c = let h = mul-le-mul (c .before .rows .ensures .1) (c .columns .ensures .1) in
     (ap₂ _*_ (c .before .rows .ensures .0) (c .columns .ensures .0), omega arith)
 
 pub area-spec : {M : Type 1} → statement M

@@ -17,7 +17,7 @@ use Rattle.table.proofs.limits.extremes_of.Lts as lts
 use Rattle.table.proofs.limits.share.Reads as share-reads
 
 abbrev Inv-loop : tie.InvT-loop
-Inv-loop t n high₀ low₀ k₀ high low k =    (k ≤ n) × (high ≡ sum k (terms posPart t)) × (low ≡ sum k (terms negPart t)) × (high ≤ k * 2147483648) × (low ≤ k * 2147483648)
+Inv-loop t n high₀ low₀ k₀ high low k = (k ≤ n) × (high ≡ sum k (terms posPart t)) × (low ≡ sum k (terms negPart t)) × (high ≤ k * 2147483648) × (low ≤ k * 2147483648)
 
 abbrev μ-loop : tie.MeasureT-loop
 μ-loop t n high₀ low₀ k₀ high low k = n - k
@@ -57,7 +57,7 @@ loop-less c = search needs
 
 -- src/limits.rt:121:5
 loop-again : tie.Need-loop-again Inv-loop μ-loop
-loop-again c =    let i = c .before .before .before .before .before .loop .inv in
+loop-again c = let i = c .before .before .before .before .before .loop .inv in
     let e = c .before .before .share .ensures in
     let h = e .high in
     let l = e .low in
@@ -65,14 +65,14 @@ loop-again c =    let i = c .before .before .before .before .before .loop .inv i
 
 -- src/limits.rt:113:1
 returns : tie.Need-returns Inv-loop μ-loop
-returns c =    let i = c .before .loop .inv in
+returns c = let i = c .before .loop .inv in
     let t = c .before .before .args .t1 in
     let e : c .before .loop .k ≡ t .count = omega arith in
-    record
-    { high = i .1 ∙ ap (λ n. sum n (terms posPart t)) e
-    ; low = i .2 ∙ ap (λ n. sum n (terms negPart t)) e
-    ; high-small = omega arith
-    ; low-small = omega arith
+    record {
+      high = i .1 ∙ ap (λ n. sum n (terms posPart t)) e;
+      low = i .2 ∙ ap (λ n. sum n (terms negPart t)) e;
+      high-small = omega arith;
+      low-small = omega arith;
     }
 
 pub extremes-of-spec : {M : Type 1} → statement M

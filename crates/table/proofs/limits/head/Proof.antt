@@ -36,20 +36,20 @@ word-good-requires c κs = search needs
 returns-3 : tie.Need-returns-3
 unfolding headSays
 returns-3 c =
-    rw
-    ( sym (c .before .before .before .before .before .bits-good .ensures) ∙ not-false _ (c .before .before .before .before .if1 .left)
-    , sym (c .before .before .before .drops-good .ensures) ∙ not-false _ (c .before .before .if2 .left)
-    , sym (c .before .word-good .ensures) ∙ not-true _ (c .if3 .taken)
+    rw (
+      sym (c .before .before .before .before .before .bits-good .ensures) ∙ not-false _ (c .before .before .before .before .if1 .left),
+      sym (c .before .before .before .drops-good .ensures) ∙ not-false _ (c .before .before .if2 .left),
+      sym (c .before .word-good .ensures) ∙ not-true _ (c .if3 .taken),
     )
 
 -- src/limits.rt:48:1
 returns-4 : tie.Need-returns-4
 unfolding headSays
 returns-4 c =
-    rw
-    ( sym (c .before .before .before .before .before .bits-good .ensures) ∙ not-false _ (c .before .before .before .before .if1 .left)
-    , sym (c .before .before .before .drops-good .ensures) ∙ not-false _ (c .before .before .if2 .left)
-    , sym (c .before .word-good .ensures) ∙ not-false _ (c .if3 .left)
+    rw (
+      sym (c .before .before .before .before .before .bits-good .ensures) ∙ not-false _ (c .before .before .before .before .if1 .left),
+      sym (c .before .before .before .drops-good .ensures) ∙ not-false _ (c .before .before .if2 .left),
+      sym (c .before .word-good .ensures) ∙ not-false _ (c .if3 .left),
     )
 
 pub head-spec : {M : Type 1} → statement M

@@ -59,15 +59,15 @@ mul-t8 c = let h = product _ _ (small c .1) (c .before .before .area .ensures .1
 
 -- src/limits.rt:99:1
 returns : tie.Need-returns
-returns c =    let r = c .before .before .before .before .before .args .r in
+returns c = let r = c .before .before .before .before .before .args .r in
     let f : SFits w16 (r .weight) = search needs in
     let d = rw (toZ-ofZ f) at (c .before .before .before .biased-word .ensures .0) in
     let a = c .before .before .area .ensures in
-    record
-    { high = ap₂ _*_ (c .before .monus .ensures ∙ sym (diff-posPart d)) (a .0)
-    ; low = ap₂ _*_ (c .monus2 .ensures ∙ sym (diff-negPart d)) (a .0)
-    ; high-small = product _ _ (small c .0) (a .1)
-    ; low-small = product _ _ (small c .1) (a .1)
+    record {
+      high = ap₂ _*_ (c .before .monus .ensures ∙ sym (diff-posPart d)) (a .0);
+      low = ap₂ _*_ (c .monus2 .ensures ∙ sym (diff-negPart d)) (a .0);
+      high-small = product _ _ (small c .0) (a .1);
+      low-small = product _ _ (small c .1) (a .1);
     }
 
 pub share-spec : {M : Type 1} → statement M

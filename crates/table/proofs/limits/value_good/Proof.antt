@@ -33,7 +33,7 @@ power-requires c κs = search needs
 
 -- src/limits.rt:138:15
 sub-top : tie.Need-sub-top
-sub-top c =    let e = c .power .ensures .0 (omega arith) in
+sub-top c = let e = c .power .ensures .0 (omega arith) in
     let p = pow-pos (c .before .before .args .t .b) in
     omega arith
 
@@ -75,29 +75,29 @@ power-requires-3 c κs = search needs
 
 -- src/limits.rt:132:1
 returns : tie.Need-returns
-returns c =    let s = c .before .before .before .before .before .before .before .before .before in
+returns c = let s = c .before .before .before .before .before .before .before .before .before in
     let t = s .before .before .args .t in
     let e = s .before .extremes-of .ensures in
-    rw
-    ( value-slots t
-    , ← e .high
-    , ← e .low
-    , ← (s .power .ensures .0 (omega arith))
-    , ← (c .before .before .before .before .power2 .ensures .0 (omega arith))
-    , ← (c .power3 .ensures .0 (omega arith))
-    , lt-ltb _ _ (c .before .before .before .if1 .taken)
+    rw (
+      value-slots t,
+      ← e .high,
+      ← e .low,
+      ← (s .power .ensures .0 (omega arith)),
+      ← (c .before .before .before .before .power2 .ensures .0 (omega arith)),
+      ← (c .power3 .ensures .0 (omega arith)),
+      lt-ltb _ _ (c .before .before .before .if1 .taken),
     )
 
 -- src/limits.rt:132:1
 returns-2 : tie.Need-returns-2
-returns-2 c =    let s = c .before .before .before .before .before .before in
+returns-2 c = let s = c .before .before .before .before .before .before in
     let t = s .before .before .args .t in
-    rw
-    ( value-slots t
-    , ← (s .before .extremes-of .ensures .high)
-    , ← (s .power .ensures .0 (omega arith))
-    , ← (c .before .power2 .ensures .0 (omega arith))
-    , le-ltb _ _ (c .if1 .left)
+    rw (
+      value-slots t,
+      ← (s .before .extremes-of .ensures .high),
+      ← (s .power .ensures .0 (omega arith)),
+      ← (c .before .power2 .ensures .0 (omega arith)),
+      le-ltb _ _ (c .if1 .left),
     )
 
 pub value-good-spec : {M : Type 1} → statement M

@@ -35,7 +35,7 @@ use Rattle.table.proofs.reading.field.Reads as field-reads
 use Rattle.table.proofs.reading.rect_of.Reads as rect-of-reads
 
 abbrev Inv-loop : tie.InvT-loop
-Inv-loop bytes t₀ at₀ t at =    (t ≡ tableOf (contents t)) × (t .count ≤ 16) × (at ≤ length bytes)
+Inv-loop bytes t₀ at₀ t at = (t ≡ tableOf (contents t)) × (t .count ≤ 16) × (at ≤ length bytes)
     × (fieldsOf (16 - t .count) (drop at bytes) (contents t) ≡ fieldsOf 16 (drop 9 bytes) (headOf bytes))
 
 abbrev μ-loop : tie.MeasureT-loop
@@ -65,21 +65,21 @@ module _ (bs : List ℕ) (t : Table) (at : ℕ) (inv : Inv-loop bs t at t at) (f
   next-contents =
       ap contents next-is
       ∙ contents-tableOf (plus (contents t) (rectOf (drop at bs)))
-          (let e = slots t in let l = length-append (contents t .rects) (rectOf (drop at bs) ∷ []) in omega arith)
+      (let e = slots t in let l = length-append (contents t .rects) (rectOf (drop at bs) ∷ []) in omega arith)
 
   next-inv : Inv-loop bs t at (placed t (rectOf (drop at bs))) (at + 9)
   next-inv =
       let d = length-drop at bs in
-      let z : 16 - t .count ≡ suc (16 - (t .count + 1)) = omega arith in
-      ( next-is ∙ ap tableOf (sym next-contents)
-      , omega arith
-      , within-bytes
-      , ap (λ x. fieldsOf (16 - (t .count + 1)) (drop (at + 9) bs) x) next-contents
-        ∙ ap (λ x. fieldsOf (16 - (t .count + 1)) x (plus (contents t) (rectOf (drop at bs)))) (sym (drop-drop 9 at bs))
-        ∙ sym (fields-step (16 - (t .count + 1)) (drop at bs) (contents t) (omega arith)
-          ∙ ap (λ x. after x (fieldsOf (16 - (t .count + 1)) (drop 9 (drop at bs)) (plus (contents t) (rectOf (drop at bs))))) v)
-        ∙ ap (λ n. fieldsOf n (drop at bs) (contents t)) (sym z)
-        ∙ inv .3
+      let z : 16 - t .count ≡ suc (16 - (t .count + 1)) = omega arith in (
+        next-is ∙ ap tableOf (sym next-contents),
+        omega arith,
+        within-bytes,
+        ap (λ x. fieldsOf (16 - (t .count + 1)) (drop (at + 9) bs) x) next-contents
+            ∙ ap (λ x. fieldsOf (16 - (t .count + 1)) x (plus (contents t) (rectOf (drop at bs)))) (sym (drop-drop 9 at bs))
+            ∙ sym (fields-step (16 - (t .count + 1)) (drop at bs) (contents t) (omega arith)
+            ∙ ap (λ x. after x (fieldsOf (16 - (t .count + 1)) (drop 9 (drop at bs)) (plus (contents t) (rectOf (drop at bs))))) v)
+            ∙ ap (λ n. fieldsOf n (drop at bs) (contents t)) (sym z)
+            ∙ inv .3,
       )
 
 -- src/loading.rt:68:5
@@ -140,8 +140,8 @@ returns-2 c =
     let f = rw (tail-is (s .loop .at) bs) at (c .before .before .before .before .field .ensures) in
     let v = sym f ∙ c .before .before .v .given .1 in
     let e =
-        sym (i .3) ∙ ap (λ n. fieldsOf n (drop (s .loop .at) bs) (contents (s .loop .t))) z ∙ fields-step _ _ _ (omega arith)
-        ∙ ap (λ x. after x (fieldsOf (15 - s .loop .t .count) (drop 9 (drop (s .loop .at) bs)) (plus (contents (s .loop .t)) (rectOf (drop (s .loop .at) bs))))) v in
+    sym (i .3) ∙ ap (λ n. fieldsOf n (drop (s .loop .at) bs) (contents (s .loop .t))) z ∙ fields-step _ _ _ (omega arith)
+    ∙ ap (λ x. after x (fieldsOf (15 - s .loop .t .count) (drop 9 (drop (s .loop .at) bs)) (plus (contents (s .loop .t)) (rectOf (drop (s .loop .at) bs))))) v in
     ended bs _ _ _ _ e (c .refused2 .ensures .0) (c .refused2 .ensures .1)
 
 enum-told : tie.Need-enum-told Inv-loop μ-loop

@@ -47,13 +47,13 @@ read bs v t e h a =
     let l = loaded-from (parseOf bs) (sym e ∙ a) in
     let p = parse-sound bs (l .0) (l .1) in
     let s : t ≡ tableOf (l .0) = h ∙ ap tableFrom (l .1) in
-    record
-    { c = l .0
-    ; is = l .1
-    ; held = s
-    ; said = ap contents s ∙ contents-tableOf (l .0) (p .most)
-    ; head = subst HeadGood (sym s) (head-bounds (tableOf (l .0)) (p .head))
-    ; few = subst (λ x. x .count ≤ 16) (sym s) (p .most)
+    record {
+      c = l .0;
+      is = l .1;
+      held = s;
+      said = ap contents s ∙ contents-tableOf (l .0) (p .most);
+      head = subst HeadGood (sym s) (head-bounds (tableOf (l .0)) (p .head));
+      few = subst (λ x. x .count ≤ 16) (sym s) (p .most);
     }
 
 refused-load : (bs : List ℕ) {n p : ℕ} → parseOf bs ≡ refused n p → loadOf bs ≡ refused n p

@@ -79,7 +79,7 @@ dropped-requires : tie.Need-dropped-requires
 dropped-requires c κs =
     let s = c .before .before .before .before .before in
     let d = drops-bounds _ _ _ _ (sym (s .before .before .before .bits-good .ensures) ∙ not-false _ (s .before .before .if1 .left))
-        (sym (s .before .drops-good .ensures) ∙ not-false _ (s .if2 .left)) in
+    (sym (s .before .drops-good .ensures) ∙ not-false _ (s .if2 .left)) in
     let x = power-bounds 11 (d .0) (c .before .before .power .ensures .0 (omega arith)) in
     let y = power-bounds 8 (d .1) (c .before .power2 .ensures .0 (omega arith)) in
     let z = power-bounds 8 (d .2) (c .power3 .ensures .0 (omega arith)) in
@@ -95,14 +95,15 @@ returns-3 c =
     let f = sym (s .before .drops-good .ensures) ∙ not-false _ (s .if2 .left) in
     let d = drops-bounds _ _ _ _ e f in
     let t = s .before .before .before .before .args .t in
-    rw
-    ( e, f
-    , pow-add 2 (t .q1) (t .q2)
-    , ← (c .before .before .before .power .ensures .0 (omega arith))
-    , ← (c .before .before .power2 .ensures .0 (omega arith))
-    , ← (c .before .power3 .ensures .0 (omega arith))
-    , ← (c .before .before .before .before .before .columns .ensures .0)
-    , ← (c .before .before .before .before .rows .ensures .0)
+    rw (
+      e,
+      f,
+      pow-add 2 (t .q1) (t .q2),
+      ← (c .before .before .before .power .ensures .0 (omega arith)),
+      ← (c .before .before .power2 .ensures .0 (omega arith)),
+      ← (c .before .power3 .ensures .0 (omega arith)),
+      ← (c .before .before .before .before .before .columns .ensures .0),
+      ← (c .before .before .before .before .rows .ensures .0),
     )
     (ap Loss (c .dropped .ensures))
 

@@ -38,10 +38,10 @@ returns-3 : tie.Need-returns-3
 unfolding fieldSays
 returns-3 c =
     let s = c .before .before .before in
-    rw
-    ( sym (s .before .before .starts .ensures) ∙ not-false _ (s .before .if1 .left)
-    , le-leb _ _ (s .if2 .left)
-    , sym (c .before .rect-good .ensures .0 ∙ ap rectGood (c .before .before .rect-of .ensures)) ∙ not-true _ (c .if3 .taken)
+    rw (
+      sym (s .before .before .starts .ensures) ∙ not-false _ (s .before .if1 .left),
+      le-leb _ _ (s .if2 .left),
+      sym (c .before .rect-good .ensures .0 ∙ ap rectGood (c .before .before .rect-of .ensures)) ∙ not-true _ (c .if3 .taken),
     )
 
 -- src/reading.rt:43:1
@@ -49,10 +49,10 @@ returns-4 : tie.Need-returns-4
 unfolding fieldSays
 returns-4 c =
     let s = c .before .before .before in
-    rw
-    ( sym (s .before .before .starts .ensures) ∙ not-false _ (s .before .if1 .left)
-    , le-leb _ _ (s .if2 .left)
-    , sym (c .before .rect-good .ensures .0 ∙ ap rectGood (c .before .before .rect-of .ensures)) ∙ not-false _ (c .if3 .left)
+    rw (
+      sym (s .before .before .starts .ensures) ∙ not-false _ (s .before .if1 .left),
+      le-leb _ _ (s .if2 .left),
+      sym (c .before .rect-good .ensures .0 ∙ ap rectGood (c .before .before .rect-of .ensures)) ∙ not-false _ (c .if3 .left),
     )
 
 pub field-spec : {M : Type 1} → statement M

@@ -58,9 +58,9 @@ turn out₀ out t k h e =
     rw (e, p, q, r, m)
     (sym (append-assoc (front out₀ t k) (encodeRect (rect t k)) (drop (9 + 9 * (k + 1)) out₀))
     ∙ ap (λ l. l ++ drop (9 + 9 * (k + 1)) out₀)
-        (append-assoc (take 9 out₀) (encodeRects (tab k (rect t))) (encodeRect (rect t k))
-        ∙ ap (λ l. take 9 out₀ ++ l)
-            (sym (rects-snoc (tab k (rect t)) (rect t k)) ∙ ap encodeRects (sym (tab-suc k (rect t)) ∙ ap (λ j. tab j (rect t)) (sym (add-one k))))))
+    (append-assoc (take 9 out₀) (encodeRects (tab k (rect t))) (encodeRect (rect t k))
+    ∙ ap (λ l. take 9 out₀ ++ l)
+    (sym (rects-snoc (tab k (rect t)) (rect t k)) ∙ ap encodeRects (sym (tab-suc k (rect t)) ∙ ap (λ j. tab j (rect t)) (sym (add-one k))))))
 
 -- all fields are put
 whole : (t : Table) (out : List ℕ) →
@@ -70,9 +70,9 @@ unfolding encode
 whole t out =
     let h = encodeHead (contents t) in
     let n = length-head (contents t) in
-    rw
-    ( take-at h (drop 9 out) 9 n
-    , sym (drop-drop (9 * t .count) 9 (h ++ drop 9 out)) ∙ ap (drop (9 * t .count)) (drop-at h (drop 9 out) 9 n) ∙ drop-drop (9 * t .count) 9 out
+    rw (
+      take-at h (drop 9 out) 9 n,
+      sym (drop-drop (9 * t .count) 9 (h ++ drop 9 out)) ∙ ap (drop (9 * t .count)) (drop-at h (drop 9 out) 9 n) ∙ drop-drop (9 * t .count) 9 out,
     )
 
 -- src/writing.rt:60:5
@@ -143,7 +143,7 @@ loop-again c =
     let t = s .before .before .before .before .before .before .args .t2 in
     let p = rw (tail-is (9 + 9 * k) (s .loop .out)) at (c .before .before .put-rect .ensures) in
     let e = tail-back (9 + 9 * k) (s .loop .out) (c .before .before .put-rect .last .0)
-        ∙ ap (λ l. take (9 + 9 * k) (s .loop .out) ++ l) p ∙ turn out₀ (s .loop .out) t k (omega arith) (i .1) in
+    ∙ ap (λ l. take (9 + 9 * k) (s .loop .out) ++ l) p ∙ turn out₀ (s .loop .out) t k (omega arith) (i .1) in
     let a = length-append (front out₀ t (k + 1)) (drop (9 + 9 * (k + 1)) out₀) in
     let b = front-length out₀ t (k + 1) (omega arith) in
     let d = length-drop (9 + 9 * (k + 1)) out₀ in

@@ -1,0 +1,186 @@
+-- A table within the limits, written out: loading its file gives the table back.
+-- Assumes nothing.
+use Prim.Native.Nat.{ℕ, zero, suc, _+_, _*_, _/_, _%_, _≤_, _<_}
+use native.Mathlib.Omega.{arith}
+use native.Mathlib.Nat.{div-add-mod'}
+use mathlib.Core.Path.{_≡_, refl, sym, ap, ap₂, _∙_, subst}
+use mathlib.Core.Bool.{Bool, true, _&&_}
+use mathlib.Core.List.{List, [], _∷_, _++_, append-assoc, append-nil}
+use lib.Dec.{T, leb, ltb, leb→le, ltb→lt}
+use lib.ListN.{length, getD, drop, length-append}
+use borrow.Author.Tests.{le-leb}
+use mir.Facts.{and-yes}
+use Rattle.arith.specs.All.{all}
+use Rattle.arith.specs.Twos.{signed, unsigned, fitsSigned}
+use Rattle.arith.proofs.Alls.{all-at}
+use Rattle.arith.proofs.Bools.{true-of}
+use Rattle.arith.proofs.Words.{signed-unsigned, unsigned-lt}
+use Rattle.table.specs.declared.layout.Rect.{Rect}
+use Rattle.table.specs.declared.layout.Verdict.the-variants.{Accepted}
+use Rattle.table.specs.Contents.{Contents, noRect}
+use Rattle.table.specs.Limits.{bitsGood, dropsGood, wordGood, rectGood, valueGood, within}
+use Rattle.table.specs.Answers.{ask}
+use Rattle.table.specs.Format.{Bytes, Outcome, loaded, after, marked, headOf, rectOf, plus, headSays, headerSays, fieldSays, fieldsOf, parseOf, fitOf, loadOf, encodeHead, encodeRect, encodeRects, encode}
+use Rattle.table.proofs.Bounds.{RectBounds, rect-bounds, edge-fits}
+use Rattle.table.proofs.Structs.{with-rects}
+use Rattle.table.proofs.Fields.{fields-end, fields-step}
+
+-- ---- one field
+
+-- a rectangle that question 8 accepts, with a weight of 16 bits
+abbrev pub Fine : Rect → Type 0
+Fine r = T (rectGood r) × T (fitsSigned 16 (r .weight))
+
+read-back : (r : Rect) (rest : List ℕ) → Fine r → rectOf (encodeRect r ++ rest) ≡ r
+unfolding encodeRect
+read-back r rest f =
+    let b = rect-bounds r (f .0) in
+    let x = b .row in
+    let y = b .col in
+    let w = div-add-mod' (unsigned 16 (r .weight)) 256 in
+    let p = x .above in
+    let q = y .above in
+    let m = x .most in
+    let n = y .most in
+    let e0 = signed-unsigned 8 (r .leadrow) (omega arith) (edge-fits (x .lead-is) (x .most)) in
+    let e1 = signed-unsigned 8 (r .leadcol) (omega arith) (edge-fits (y .lead-is) (y .most)) in
+    let e2 = signed-unsigned 8 (r .trailrow) (omega arith) (edge-fits (x .trail-is) (omega arith)) in
+    let e3 = signed-unsigned 8 (r .trailcol) (omega arith) (edge-fits (y .trail-is) (omega arith)) in
+    let e4 = ap (signed 16) w ∙ signed-unsigned 16 (r .weight) (omega arith) (f .1) in
+    λ i. record { leadrow = e0 i; leadcol = e1 i; trailrow = e2 i; trailcol = e3 i; weight = e4 i }
+
+long : (r : Rect) (rest : List ℕ) → 9 ≤ length (encodeRect r ++ rest)
+unfolding encodeRect
+long r rest = omega arith
+
+field-read : (r : Rect) (rest : List ℕ) → Fine r → fieldSays (encodeRect r ++ rest) ≡ Accepted
+unfolding fieldSays marked encodeRect
+field-read r rest f =
+    let l = long r rest in
+    rw (read-back r rest f, le-leb 3 (length (encodeRect r ++ rest)) (omega arith), le-leb 9 (length (encodeRect r ++ rest)) l, true-of (rectGood r) (f .0))
+
+field-gone : (r : Rect) (rest : List ℕ) → drop 9 (encodeRect r ++ rest) ≡ rest
+unfolding encodeRect
+field-gone r rest = refl
+
+-- ---- the fields
+
+abbrev pub Fines : List Rect → Type 0
+Fines rs = (k : ℕ) → k < length rs → Fine (getD rs k noRect)
+
+fields-read : (left : ℕ) (rs : List Rect) (c : Contents) → length rs ≤ left → Fines rs → 1 ≤ length (c .rects ++ rs)
+    → fieldsOf left (encodeRects rs) c ≡ loaded (with-rects c (c .rects ++ rs))
+unfolding encodeRects
+fields-read left [] c h f n =
+    fields-end left [] c refl
+    ∙ (let e = append-nil (c .rects) in rw (e, le-leb 1 _ (subst (λ l. 1 ≤ length l) e n)))
+fields-read zero (r ∷ rs) c h f n = absurd (omega arith)
+fields-read (suc left) (r ∷ rs) c h f n =
+    let g = f zero (omega arith) in
+    let l = long r (encodeRects rs) in
+    let a = append-assoc (c .rects) (r ∷ []) rs in
+    fields-step left (encodeRect r ++ encodeRects rs) c (omega arith)
+    ∙ rw (field-read r (encodeRects rs) g, read-back r (encodeRects rs) g, field-gone r (encodeRects rs))
+    (fields-read left rs (plus c r) (omega arith) (λ k p. f (suc k) (omega arith)) (subst (λ l. 1 ≤ length l) (sym a) n)
+    ∙ ap (λ l. loaded (with-rects c l)) a)
+
+-- ---- the whole file
+
+head-read : (c : Contents) → bitsGood (c .b) ≡ true → dropsGood (c .b) (c .q1) (c .q2) (c .q3) ≡ true → wordGood (c .t) (c .w) ≡ true
+    → headerSays (encode c) ≡ Accepted
+unfolding headerSays headSays marked encode encodeHead
+head-read c x y z = rw (le-leb 3 (length (encode c)) (omega arith), le-leb 9 (length (encode c)) (omega arith), x, y, z)
+
+parse-read : (c : Contents) → headerSays (encode c) ≡ Accepted → length (c .rects) ≤ 16 → Fines (c .rects) → 1 ≤ length (c .rects)
+    → parseOf (encode c) ≡ loaded c
+unfolding parseOf encode encodeHead
+parse-read c h l f n = rw h (fields-read 16 (c .rects) (with-rects c []) l f n)
+
+-- the parts of being within the limits
+pub record Within (c : Contents) : Type 0 where
+  pub bits : bitsGood (c .b) ≡ true
+  pub drops : dropsGood (c .b) (c .q1) (c .q2) (c .q3) ≡ true
+  pub word : wordGood (c .t) (c .w) ≡ true
+  pub some : 1 ≤ length (c .rects)
+  pub most : length (c .rects) ≤ 16
+  pub fine : Fines (c .rects)
+  pub value : valueGood c ≡ true
+
+pub within-parts : (c : Contents) → T (within c) → Within c
+unfolding within
+within-parts c t =
+    let a = and-yes (bitsGood (c .b)) _ t in
+    let b = and-yes (dropsGood (c .b) (c .q1) (c .q2) (c .q3)) _ (a .1) in
+    let d = and-yes (wordGood (c .t) (c .w)) _ (b .1) in
+    let e = and-yes (leb 1 (length (c .rects))) _ (d .1) in
+    let f = and-yes (leb (length (c .rects)) 16) _ (e .1) in
+    let g = and-yes (all (length (c .rects)) (λ k. rectGood (getD (c .rects) k noRect) && fitsSigned 16 (getD (c .rects) k noRect .weight))) (valueGood c) (f .1) in
+    record {
+      bits = true-of _ (a .0);
+      drops = true-of _ (b .0);
+      word = true-of _ (d .0);
+      some = leb→le _ _ (e .0);
+      most = leb→le _ _ (f .0);
+      fine = λ k l. and-yes (rectGood (getD (c .rects) k noRect)) (fitsSigned 16 (getD (c .rects) k noRect .weight)) (all-at _ _ (g .0) k l);
+      value = true-of _ (g .1);
+    }
+
+pub load-read : (c : Contents) → T (within c) → loadOf (encode c) ≡ loaded c
+unfolding loadOf
+load-read c t =
+    let w = within-parts c t in
+    ap fitOf (parse-read c (head-read c (w .bits) (w .drops) (w .word)) (w .most) (w .fine) (w .some))
+    ∙ ap (λ x. after (ask 10 x Accepted) (loaded c)) (w .value)
+
+-- ---- the file is made of bytes
+
+data AllBytes : List ℕ → Type 0 where
+  none : AllBytes []
+  more : {x : ℕ} {xs : List ℕ} → x < 256 → AllBytes xs → AllBytes (x ∷ xs)
+
+bytes-of : {bs : List ℕ} → AllBytes bs → Bytes bs
+bytes-of none k h = absurd (omega arith)
+bytes-of (more h b) zero l = h
+bytes-of (more h b) (suc k) l = bytes-of b k (omega arith)
+
+rect-bytes : (r : Rect) (rest : List ℕ) → Fine r → AllBytes rest → AllBytes (encodeRect r ++ rest)
+unfolding encodeRect
+rect-bytes r rest f after =
+    let b = rect-bounds r (f .0) in
+    let x = b .row in
+    let y = b .col in
+    let p = x .above in
+    let q = y .above in
+    let m = x .most in
+    let n = y .most in
+    let u = unsigned-lt 16 (r .weight) (omega arith) (f .1) in
+    more {x = 2} (omega arith) (more {x = 0} (omega arith) (more {x = 6} (omega arith)
+    (more (unsigned-lt 8 (r .leadrow) (omega arith) (edge-fits (x .lead-is) (x .most)))
+    (more (unsigned-lt 8 (r .leadcol) (omega arith) (edge-fits (y .lead-is) (y .most)))
+    (more (unsigned-lt 8 (r .trailrow) (omega arith) (edge-fits (x .trail-is) (omega arith)))
+    (more (unsigned-lt 8 (r .trailcol) (omega arith) (edge-fits (y .trail-is) (omega arith)))
+    (more {x = unsigned 16 (r .weight) / 256} (omega arith) (more {x = unsigned 16 (r .weight) % 256} (omega arith) after))))))))
+
+rects-bytes : (rs : List Rect) → Fines rs → AllBytes (encodeRects rs)
+unfolding encodeRects
+rects-bytes [] f = none
+rects-bytes (r ∷ rs) f = rect-bytes r (encodeRects rs) (f zero (omega arith)) (rects-bytes rs (λ k p. f (suc k) (omega arith)))
+
+pub encode-bytes : (c : Contents) → T (within c) → Bytes (encode c)
+unfolding encode encodeHead bitsGood dropsGood wordGood
+encode-bytes c t =
+    let w = within-parts c t in
+    let x = and-yes (leb 1 (c .b)) (leb (c .b) 12) (subst T (sym (w .bits)) tt) in
+    let y = and-yes (ltb (c .q1) (c .b)) (leb (c .q2) 8 && leb (c .q3) 8) (subst T (sym (w .drops)) tt) in
+    let y1 = and-yes (leb (c .q2) 8) (leb (c .q3) 8) (y .1) in
+    let z = and-yes (leb (c .t) 31) (leb 8 (c .w) && leb (c .w) 32) (subst T (sym (w .word)) tt) in
+    let z1 = and-yes (leb 8 (c .w)) (leb (c .w) 32) (z .1) in
+    let b = leb→le (c .b) 12 (x .1) in
+    let q1 = ltb→lt (c .q1) (c .b) (y .0) in
+    let q2 = leb→le (c .q2) 8 (y1 .0) in
+    let q3 = leb→le (c .q3) 8 (y1 .1) in
+    let s = leb→le (c .t) 31 (z .0) in
+    let v = leb→le (c .w) 32 (z1 .1) in
+    bytes-of (more {x = 1} (omega arith) (more {x = 0} (omega arith) (more {x = 6} (omega arith)
+    (more {x = c .b} (omega arith) (more {x = c .q1} (omega arith) (more {x = c .q2} (omega arith)
+    (more {x = c .q3} (omega arith) (more {x = c .t} (omega arith) (more {x = c .w} (omega arith) (rects-bytes (c .rects) (w .fine)))))))))))
