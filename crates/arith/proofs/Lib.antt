@@ -10,3 +10,4 @@ pub mod Floors
 pub mod Every
 pub mod Logs
 pub mod Parts
+pub mod Bias

@@ -1,9 +1,19 @@
-// Arithmetic that has nothing to do with filters: bounded sums, truncation by a power of two, integers,
-// floor division and ⟨log2 n⟩. What is proved of the definitions in specs/ stands in proofs/.
+// Arithmetic that has nothing to do with filters: bounded sums, truncation by a power of two, integers and
+// their words, floor division, ⟨log2 n⟩. The definitions stand in specs/, what is proved of them in proofs/.
 mod floor;
 mod log;
+mod natural;
 mod raised;
+mod sign;
 
 pub use floor::floor_shift;
 pub use log::log2_up;
+pub use natural::least;
+pub use natural::monus;
 pub use raised::power;
+pub use sign::biased_byte;
+pub use sign::biased_word;
+pub use sign::byte_of;
+pub use sign::signed_byte;
+pub use sign::signed_word;
+pub use sign::word_of;

@@ -15,13 +15,14 @@ use Rattle.arith.specs.Twos.{signed, unsigned, fitsSigned}
 use Rattle.arith.proofs.Alls.{all-at}
 use Rattle.arith.proofs.Bools.{true-of}
 use Rattle.arith.proofs.Words.{signed-unsigned, unsigned-lt}
-use Rattle.table.specs.declared.layout.Rect.{Rect}
-use Rattle.table.specs.declared.layout.Verdict.the-variants.{Accepted}
-use Rattle.table.specs.Contents.{Contents, noRect}
-use Rattle.table.specs.Limits.{bitsGood, dropsGood, wordGood, rectGood, valueGood, within}
-use Rattle.table.specs.Answers.{ask}
-use Rattle.table.specs.Format.{Bytes, Outcome, loaded, after, marked, headOf, rectOf, plus, headSays, headerSays, fieldSays, fieldsOf, parseOf, fitOf, loadOf, encodeHead, encodeRect, encodeRects, encode}
-use Rattle.table.proofs.Bounds.{RectBounds, rect-bounds, edge-fits}
+use Rattle.layout.specs.declared.Rect.{Rect}
+use Rattle.layout.specs.declared.Verdict.the-variants.{Accepted}
+use Rattle.layout.specs.Contents.{Contents, noRect}
+use Rattle.limits.specs.Limits.{bitsGood, dropsGood, wordGood, rectGood, valueGood, within}
+use Rattle.layout.specs.Answers.{ask}
+use Rattle.table.specs.Format.{Bytes, Outcome, loaded, after, marked, headOf, rectOf, plus, headerSays, fieldSays, fieldsOf, parseOf, fitOf, loadOf, encodeHead, encodeRect, encodeRects, encode}
+use Rattle.limits.specs.Limits.{headSays}
+use Rattle.limits.proofs.Bounds.{RectBounds, rect-bounds, edge-fits}
 use Rattle.table.proofs.Structs.{with-rects}
 use Rattle.table.proofs.Fields.{fields-end, fields-step}
 

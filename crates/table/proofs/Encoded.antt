@@ -5,11 +5,11 @@ use native.Mathlib.Omega.{arith}
 use mathlib.Core.Path.{_≡_, refl, sym, ap, _∙_}
 use mathlib.Core.List.{List, [], _∷_, _++_, append-assoc, append-nil}
 use lib.ListN.{length, length-append}
-use Rattle.table.specs.declared.layout.Rect.{Rect}
-use Rattle.table.specs.declared.layout.Table.{Table}
-use Rattle.table.specs.Contents.{Contents, contents}
+use Rattle.layout.specs.declared.Rect.{Rect}
+use Rattle.layout.specs.declared.Table.{Table}
+use Rattle.layout.specs.Contents.{Contents, contents}
 use Rattle.table.specs.Format.{encodeHead, encodeRect, encodeRects, encode}
-use Rattle.table.proofs.Values.{slots}
+use Rattle.limits.proofs.Values.{slots}
 
 pub length-rect : (r : Rect) → length (encodeRect r) ≡ 9
 unfolding encodeRect

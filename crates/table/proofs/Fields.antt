@@ -6,7 +6,7 @@ use mathlib.Core.Path.{_≡_, refl}
 use mathlib.Core.List.{List}
 use lib.ListN.{length, drop}
 use borrow.Author.Tests.{eq-eqb, ne-eqb}
-use Rattle.table.specs.Contents.{Contents}
+use Rattle.layout.specs.Contents.{Contents}
 use Rattle.table.specs.Format.{Outcome, refused, after, plus, rectOf, fieldSays, atEnd, fieldsOf}
 
 pub fields-end : (left : ℕ) (bs : List ℕ) (c : Contents) → length bs ≡ 0 → fieldsOf left bs c ≡ atEnd c

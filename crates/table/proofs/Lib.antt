@@ -1,13 +1,8 @@
-pub mod Bias
-pub mod Edges
-pub mod Values
 pub mod Asked
 pub mod Structs
 pub mod Fields
-pub mod Bounds
 pub mod Sound
 pub mod Encoded
-pub mod Granted
 pub mod Complete
 pub mod Numbers
 pub mod Theorems

@@ -7,12 +7,13 @@ use mathlib.Core.Bool.{Bool, true, false, cond}
 use mathlib.Core.List.{List}
 use lib.Dec.{eqb, leb}
 use lib.ListN.{length, drop}
-use Rattle.table.specs.declared.layout.Verdict.{Verdict}
-use Rattle.table.specs.declared.layout.Verdict.the-variants.{Accepted, Refused}
-use Rattle.table.specs.Contents.{Contents}
-use Rattle.table.specs.Limits.{bitsGood, dropsGood, wordGood, rectGood, valueGood}
-use Rattle.table.specs.Answers.{ask}
-use Rattle.table.specs.Format.{Outcome, refused, loaded, after, marked, headOf, rectOf, plus, headSays, headerSays, fieldSays, atEnd, fieldsOf, parseOf, fitOf, loadOf}
+use Rattle.layout.specs.declared.Verdict.{Verdict}
+use Rattle.layout.specs.declared.Verdict.the-variants.{Accepted, Refused}
+use Rattle.layout.specs.Contents.{Contents}
+use Rattle.limits.specs.Limits.{bitsGood, dropsGood, wordGood, rectGood, valueGood}
+use Rattle.layout.specs.Answers.{ask}
+use Rattle.table.specs.Format.{Outcome, refused, loaded, after, marked, headOf, rectOf, plus, headerSays, fieldSays, atEnd, fieldsOf, parseOf, fitOf, loadOf}
+use Rattle.limits.specs.Limits.{headSays}
 
 pub record Number (n p : ℕ) : Type 0 where
   pub least : 1 ≤ n

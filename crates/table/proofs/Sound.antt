@@ -15,14 +15,15 @@ use mir.Facts.{and-yes}
 use Rattle.arith.specs.Twos.{signed, unsigned, fitsSigned}
 use Rattle.arith.proofs.Words.{unsigned-signed, signed-fits}
 use Rattle.arith.proofs.Bools.{true-of}
-use Rattle.table.specs.declared.layout.Rect.{Rect}
-use Rattle.table.specs.declared.layout.Verdict.{Verdict}
-use Rattle.table.specs.declared.layout.Verdict.the-variants.{Accepted, Refused}
-use Rattle.table.specs.Contents.{Contents, noRect}
-use Rattle.table.specs.Limits.{rectGood, valueGood}
-use Rattle.table.specs.Answers.{ask}
+use Rattle.layout.specs.declared.Rect.{Rect}
+use Rattle.layout.specs.declared.Verdict.{Verdict}
+use Rattle.layout.specs.declared.Verdict.the-variants.{Accepted, Refused}
+use Rattle.layout.specs.Contents.{Contents, noRect}
+use Rattle.limits.specs.Limits.{rectGood, valueGood}
+use Rattle.layout.specs.Answers.{ask}
 use Rattle.table.specs.Format.{Bytes, Outcome, refused, loaded, after, marked, headOf, rectOf, plus, headerSays, fieldSays, atEnd, fieldsOf, parseOf, fitOf, loadOf, encodeRect, encodeRects, encodeHead, encode}
-use Rattle.table.proofs.Asked.{ask-accepted, FieldTests, field-accepted, HeaderTests, HeadTests, header-accepted}
+use Rattle.limits.proofs.Asked.{ask-accepted, HeadTests}
+use Rattle.table.proofs.Asked.{FieldTests, field-accepted, HeaderTests, header-accepted}
 use Rattle.table.proofs.Structs.{with-rects}
 use Rattle.table.proofs.Fields.{fields-end, fields-full, fields-step}
 

@@ -7,9 +7,9 @@ use mathlib.Core.List.{List, [], _∷_, _++_}
 use lib.ListN.{length, getD, set, length-append}
 use Rattle.arith.specs.Tab.{tab}
 use Rattle.arith.proofs.Tabs.{getD-tab, tab-cong, tab-getD, tab-snoc}
-use Rattle.table.specs.declared.layout.Rect.{Rect}
-use Rattle.table.specs.declared.layout.Table.{Table}
-use Rattle.table.specs.Contents.{Contents, noRect, contents, tableOf}
+use Rattle.layout.specs.declared.Rect.{Rect}
+use Rattle.layout.specs.declared.Table.{Table}
+use Rattle.layout.specs.Contents.{Contents, noRect, contents, tableOf}
 use Rattle.table.specs.Format.{plus}
 
 -- c with other rectangles

@@ -14,13 +14,13 @@ use Rattle.arith.specs.Twos.{fitsSigned}
 use Rattle.arith.proofs.Alls.{all-of}
 use Rattle.arith.proofs.Bools.{true-of}
 use lib.ListN.{length, getD}
-use Rattle.table.specs.declared.layout.Rect.{Rect}
-use Rattle.table.specs.declared.layout.Table.{Table}
-use Rattle.table.specs.declared.layout.Verdict.{Verdict}
-use Rattle.table.specs.declared.layout.Verdict.the-variants.{Accepted, Refused}
-use Rattle.table.specs.Contents.{Contents, noRect, contents}
-use Rattle.table.specs.Limits.{rectGood, within, acceptable}
-use Rattle.table.specs.Answers.{ask, Said, said}
+use Rattle.layout.specs.declared.Rect.{Rect}
+use Rattle.layout.specs.declared.Table.{Table}
+use Rattle.layout.specs.declared.Verdict.{Verdict}
+use Rattle.layout.specs.declared.Verdict.the-variants.{Accepted, Refused}
+use Rattle.layout.specs.Contents.{Contents, noRect, contents}
+use Rattle.limits.specs.Limits.{rectGood, within, acceptable}
+use Rattle.layout.specs.Answers.{ask, Said, said}
 use Rattle.table.specs.Format.{Bytes, Outcome, refused, loaded, loadOf, verdictOf, encode}
 use Rattle.table.proofs.Numbers.{Number, Outcomes, loads, fails, number-of, load-numbers}
 use Rattle.table.proofs.Sound.{same-contents, load-sound}

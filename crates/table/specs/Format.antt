@@ -6,13 +6,13 @@ use mathlib.Core.List.{List, [], _∷_, _++_}
 use lib.Dec.{leb, eqb}
 use lib.ListN.{length, getD, drop}
 use Rattle.arith.specs.Twos.{signed, unsigned}
-use Rattle.table.specs.declared.layout.Rect.{Rect}
-use Rattle.table.specs.declared.layout.Table.{Table}
-use Rattle.table.specs.declared.layout.Verdict.{Verdict}
-use Rattle.table.specs.declared.layout.Verdict.the-variants.{Accepted, Refused}
-use Rattle.table.specs.Contents.{Contents, noRects, tableOf}
-use Rattle.table.specs.Limits.{bitsGood, dropsGood, wordGood, rectGood, valueGood}
-use Rattle.table.specs.Answers.{ask}
+use Rattle.layout.specs.declared.Rect.{Rect}
+use Rattle.layout.specs.declared.Table.{Table}
+use Rattle.layout.specs.declared.Verdict.{Verdict}
+use Rattle.layout.specs.declared.Verdict.the-variants.{Accepted, Refused}
+use Rattle.layout.specs.Contents.{Contents, noRects, tableOf}
+use Rattle.limits.specs.Limits.{headSays, rectGood, valueGood}
+use Rattle.layout.specs.Answers.{ask}
 
 -- a file is a sequence of bytes
 abbrev pub Bytes : List ℕ → Type 0
@@ -52,10 +52,6 @@ rectOf bs =
 -- c with one rectangle more
 abbrev pub plus : Contents → Rect → Contents
 plus c r = record { b = c .b; q1 = c .q1; q2 = c .q2; q3 = c .q3; t = c .t; w = c .w; rects = c .rects ++ (r ∷ []) }
-
--- questions 3 to 5, on a header's numbers
-unfoldable pub headSays : (b q1 q2 q3 t w : ℕ) → Verdict
-headSays b q1 q2 q3 t w = ask 3 (bitsGood b) (ask 4 (dropsGood b q1 q2 q3) (ask 5 (wordGood t w) Accepted))
 
 -- questions 1 to 5, on the header
 unfoldable pub headerSays : List ℕ → Verdict

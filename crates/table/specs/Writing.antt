@@ -4,14 +4,14 @@ use Prim.Native.Nat.{ℕ, _+_, _*_}
 use mathlib.Core.List.{List, _++_}
 use lib.Dec.{leb}
 use lib.ListN.{length, drop}
-use Rattle.table.specs.declared.layout.Table.{Table}
-use Rattle.table.specs.declared.layout.Verdict.{Verdict}
-use Rattle.table.specs.declared.layout.Verdict.the-variants.{Accepted, Refused}
+use Rattle.layout.specs.declared.Table.{Table}
+use Rattle.layout.specs.declared.Verdict.{Verdict}
+use Rattle.layout.specs.declared.Verdict.the-variants.{Accepted, Refused}
 use Rattle.table.specs.declared.writing.Written.{Written}
 use Rattle.table.specs.declared.writing.Written.the-variants.{Length, Refused as NotWritten}
-use Rattle.table.specs.Contents.{contents}
-use Rattle.table.specs.Limits.{acceptable}
-use Rattle.table.specs.Answers.{ask, Said}
+use Rattle.layout.specs.Contents.{contents}
+use Rattle.limits.specs.Limits.{acceptable}
+use Rattle.layout.specs.Answers.{ask, Said}
 use Rattle.table.specs.Format.{encode}
 
 -- the length of the file of a table: 9 + 9·(rectangles)

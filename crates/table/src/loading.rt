@@ -2,17 +2,16 @@
 ghost use mathlib.Core.Path.{_≡_};
 ghost use Prim.Native.Nat.{_≤_};
 ghost use lib.ListN.{length, drop};
-ghost use Rattle.table.specs.Contents.{noRects, contents, tableOf};
-ghost use Rattle.table.specs.Answers.{said};
+ghost use Rattle.layout.specs.Contents.{noRects, contents, tableOf};
+ghost use Rattle.layout.specs.Answers.{said};
 ghost use Rattle.table.specs.Format.{headOf, fieldsOf, parseOf, loadOf, verdictOf, tableFrom};
-use crate::layout::Rect;
-use crate::layout::Table;
-use crate::layout::Verdict;
-use crate::layout::no_rect;
-use crate::limits::value_good;
 use crate::reading::field;
 use crate::reading::header;
 use crate::reading::rect_of;
+use layout::Rect;
+use layout::Table;
+use layout::Verdict;
+use limits::value_good;
 
 // What loading answers: the verdict, and the table, which has no rectangle where the file was refused.
 pub struct Loaded {
@@ -24,7 +23,14 @@ pub struct Loaded {
 fn bare(b: u8, q1: u8, q2: u8, q3: u8, t: u8, w: u8) -> Table
     ensures { λ r. ⌜ r ≡ tableOf (noRects b q1 q2 q3 t w) ⌝ }
 {
-    let rects = [no_rect(); 16];
+    let none = Rect {
+        leadrow: 0,
+        leadcol: 0,
+        trailrow: 0,
+        trailcol: 0,
+        weight: 0,
+    };
+    let rects = [none; 16];
     Table {
         b,
         q1,

@@ -3,12 +3,12 @@ ghost use mathlib.Core.Path.{_≡_};
 ghost use Prim.Native.Nat.{_≤_};
 ghost use lib.ListN.{length};
 ghost use Rattle.table.specs.Format.{marked, rectOf, headerSays, fieldSays};
-use crate::layout::Rect;
-use crate::layout::Verdict;
-use crate::limits::head;
-use crate::limits::rect_good;
-use crate::sign::signed_byte;
-use crate::sign::signed_word;
+use arith::signed_byte;
+use arith::signed_word;
+use layout::Rect;
+use layout::Verdict;
+use limits::head;
+use limits::rect_good;
 
 // Whether a field begins with this tag and the length 6.
 fn starts(tag: u8, bytes: &[u8]) -> bool

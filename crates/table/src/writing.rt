@@ -3,14 +3,14 @@ ghost use mathlib.Core.Path.{_≡_};
 ghost use Prim.Native.Nat.{_+_, _*_, _≤_};
 ghost use lib.ListN.{length, drop};
 ghost use mathlib.Core.List.{_++_};
-ghost use Rattle.table.specs.Contents.{contents};
+ghost use Rattle.layout.specs.Contents.{contents};
 ghost use Rattle.table.specs.Format.{encodeHead, encodeRect, encode};
 ghost use Rattle.table.specs.Writing.{writtenOf, outputOf};
-use crate::accept::accepted;
-use crate::layout::Rect;
-use crate::layout::Table;
-use crate::sign::byte_of;
-use crate::sign::word_of;
+use arith::byte_of;
+use arith::word_of;
+use layout::Rect;
+use layout::Table;
+use limits::accepted;
 
 // How many bytes were written, or the number and the place of the question answered no.
 pub enum Written {

@@ -1,17 +1,17 @@
 use Rattle.table.specs.Format.{loaded}
-use Rattle.table.specs.Answers.{ask}
+use Rattle.layout.specs.Answers.{ask}
 use borrow.Author.Tests.{le-leb, lt-leb}
 use Rattle.table.proofs.Asked.{FieldTests, field-accepted}
-use Rattle.table.proofs.Values.{slots}
+use Rattle.limits.proofs.Values.{slots}
 use mathlib.Core.List.{_∷_}
 use lib.ListN.{length-append}
 use Rattle.table.proofs.Fields.{fields-end, fields-full, fields-step}
 use Rattle.table.proofs.Structs.{contents-tableOf, placed, placed-is}
 use Rattle.table.specs.Format.{refused, after, plus, rectOf, fieldSays, atEnd, verdictOf, tableFrom}
-use Rattle.table.specs.Contents.{noRects}
-use Rattle.table.specs.declared.layout.Verdict.the-variants.{Accepted, Refused}
-use Rattle.table.specs.declared.layout.Verdict.{Verdict}
-use Rattle.table.specs.declared.layout.Table.{Table}
+use Rattle.layout.specs.Contents.{noRects}
+use Rattle.layout.specs.declared.Verdict.the-variants.{Accepted, Refused}
+use Rattle.layout.specs.declared.Verdict.{Verdict}
+use Rattle.layout.specs.declared.Table.{Table}
 use Rattle.arith.specs.Tab.{tab}
 use denote.Ref.{now}
 use lib.Seq.{drop-drop}
@@ -21,7 +21,7 @@ use mathlib.Core.Path.{refl, sym, ap, _∙_}
 use native.Mathlib.Omega.{arith}
 use mathlib.Core.List.{List, []}
 use Rattle.table.specs.Format.{Outcome, headOf, fieldsOf}
-use Rattle.table.specs.Contents.{Contents, contents, tableOf}
+use Rattle.layout.specs.Contents.{Contents, contents, tableOf}
 use lib.ListN.{length, drop}
 use mathlib.Core.Path.{_≡_}
 use Prim.Native.Nat.{ℕ, suc, _+_, _-_, _≤_, _<_}

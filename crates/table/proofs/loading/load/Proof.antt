@@ -1,26 +1,25 @@
-use Rattle.table.proofs.Sound.{Parsed, parse-sound}
+use Rattle.table.proofs.Sound.{parse-sound}
 use Rattle.table.proofs.Structs.{contents-tableOf}
-use Rattle.table.proofs.Asked.{head-bounds}
-use Rattle.table.specs.Slots.{HeadGood}
 use Rattle.table.specs.Format.{Outcome, refused, loaded, after, parseOf, fitOf, loadOf, verdictOf, tableFrom}
-use Rattle.table.specs.Answers.{ask}
-use Rattle.table.specs.Limits.{valueGood}
-use Rattle.table.specs.Contents.{Contents, contents, tableOf}
-use Rattle.table.specs.declared.layout.Verdict.the-variants.{Accepted, Refused}
-use Rattle.table.specs.declared.layout.Verdict.{Verdict}
-use Rattle.table.specs.declared.layout.Table.{Table}
+use Rattle.layout.specs.Answers.{ask}
+use Rattle.limits.specs.Limits.{fitting, valueGood}
+use Rattle.layout.specs.Contents.{Contents, tableOf}
+use Rattle.layout.specs.declared.Verdict.the-variants.{Accepted, Refused}
+use Rattle.layout.specs.declared.Verdict.{Verdict}
+use Rattle.layout.specs.declared.Table.{Table}
 use lib.ListN.{length}
-use Prim.Native.Nat.{ℕ, _≤_}
+use Prim.Native.Nat.{ℕ}
+use borrow.Author.Tests.{le-leb}
 use mathlib.Core.List.{List}
 use mathlib.Core.Bool.{Bool, true, false}
-use mathlib.Core.Path.{_≡_, refl, sym, ap, _∙_, subst}
+use mathlib.Core.Path.{_≡_, refl, sym, ap, _∙_}
 use native.Mathlib.Omega.{arith}
 use borrow.Author.Needs.{needs}
 use Rattle.table.proofs.loading.load.Statement.{statement}
 use Rattle.table.proofs.loading.load.Tie as tie
 use Rattle.table.proofs.loading.load.Reads as reads
 use Rattle.table.proofs.loading.load.Lts as lts
-use Rattle.table.proofs.limits.value_good.Reads as value-good-reads
+use Rattle.limits.proofs.value_good.Reads as value-good-reads
 use Rattle.table.proofs.loading.parse.Reads as parse-reads
 use Rattle.table.proofs.loading.refused.Reads as refused-reads
 
@@ -33,16 +32,15 @@ loaded-from : (o : Outcome) → verdictOf o ≡ Accepted → (c : Contents) × (
 loaded-from (refused m q) e = absurd (let z : _≡_ {A = ℕ} 0 1 = cc in omega arith)
 loaded-from (loaded c) e = (c, refl)
 
--- questions 1 to 9 were answered yes: the struct t holds the table c that was read
+-- questions 1 to 9 were answered yes: the struct t holds the table c that was read, and what is left of question 10 is its own test
 record Read (bs : List ℕ) (t : Table) : Type 0 where
   c : Contents
   is : parseOf bs ≡ loaded c
   held : t ≡ tableOf c
-  said : contents t ≡ c
-  head : HeadGood t
-  few : t .count ≤ 16
+  fits : fitting t ≡ valueGood c
 
 read : (bs : List ℕ) (v : Verdict) (t : Table) → v ≡ verdictOf (parseOf bs) → t ≡ tableFrom (parseOf bs) → v ≡ Accepted → Read bs t
+unfolding fitting
 read bs v t e h a =
     let l = loaded-from (parseOf bs) (sym e ∙ a) in
     let p = parse-sound bs (l .0) (l .1) in
@@ -51,9 +49,8 @@ read bs v t e h a =
       c = l .0;
       is = l .1;
       held = s;
-      said = ap contents s ∙ contents-tableOf (l .0) (p .most);
-      head = subst HeadGood (sym s) (head-bounds (tableOf (l .0)) (p .head));
-      few = subst (λ x. x .count ≤ 16) (sym s) (p .most);
+      fits = ap fitting s
+          ∙ rw (p .head .bits, p .head .drops, p .head .word, le-leb (length (l .0 .rects)) 16 (p .most)) (ap valueGood (contents-tableOf (l .0) (p .most)));
     }
 
 refused-load : (bs : List ℕ) {n p : ℕ} → parseOf bs ≡ refused n p → loadOf bs ≡ refused n p
@@ -79,9 +76,7 @@ enum-told-2 c = search needs
 
 -- src/loading.rt:115:16
 value-good-requires : tie.Need-value-good-requires
-value-good-requires c κs =
-    let p = read _ _ _ (c .before .before .before .parse .ensures .0) (c .before .before .before .parse .ensures .1) (c .before .enum-told2 .given .1) in
-    (p .head, p .few)
+value-good-requires c κs = search needs
 
 -- src/loading.rt:115:46
 refused-requires : tie.Need-refused-requires
@@ -100,8 +95,7 @@ returns-2 : tie.Need-returns-2
 returns-2 c =
     let s = c .before .before .before .before .before in
     let p = read _ _ _ (s .parse .ensures .0) (s .parse .ensures .1) (c .before .before .before .enum-told2 .given .1) in
-    let g : valueGood (p .c) ≡ true = ap valueGood (sym (p .said)) ∙ sym (c .before .value-good .ensures) ∙ c .if1 .taken in
-    let l = load-is _ (p .c) true (p .is) g in
+    let l = load-is _ (p .c) true (p .is) (sym (p .fits) ∙ sym (c .before .value-good .ensures) ∙ c .if1 .taken) in
     (rw l (c .before .before .before .enum-told2 .given .1), rw l (p .held))
 
 -- src/loading.rt:105:1
@@ -109,8 +103,7 @@ returns-3 : tie.Need-returns-3
 returns-3 c =
     let s = c .before .before .before .before .before .before in
     let p = read _ _ _ (s .parse .ensures .0) (s .parse .ensures .1) (c .before .before .before .before .enum-told2 .given .1) in
-    let g : valueGood (p .c) ≡ false = ap valueGood (sym (p .said)) ∙ sym (c .before .before .value-good .ensures) ∙ c .before .if1 .left in
-    let l = load-is _ (p .c) false (p .is) g in
+    let l = load-is _ (p .c) false (p .is) (sym (p .fits) ∙ sym (c .before .before .value-good .ensures) ∙ c .before .if1 .left) in
     (rw l (c .refused .ensures .0), rw l (c .refused .ensures .1))
 
 pub load-spec : {M : Type 1} → statement M

@@ -1,5 +1,5 @@
 use Rattle.table.proofs.Asked.{header-accepted}
-use Rattle.table.specs.declared.layout.Verdict.{Verdict}
+use Rattle.layout.specs.declared.Verdict.{Verdict}
 use Rattle.table.specs.Format.{Outcome, after, headOf, headerSays, fieldsOf, parseOf, verdictOf, tableFrom}
 use lib.ListN.{drop}
 use Prim.Native.Nat.{ℕ}

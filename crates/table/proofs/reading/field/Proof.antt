@@ -1,4 +1,4 @@
-use Rattle.table.specs.Limits.{rectGood}
+use Rattle.limits.specs.Limits.{rectGood}
 use Rattle.table.specs.Format.{fieldSays}
 use mathlib.Core.Path.{sym, _∙_, ap}
 use borrow.Author.Tests.{le-leb, lt-leb, not-true, not-false}
@@ -7,7 +7,7 @@ use Rattle.table.proofs.reading.field.Statement.{statement}
 use Rattle.table.proofs.reading.field.Tie as tie
 use Rattle.table.proofs.reading.field.Reads as reads
 use Rattle.table.proofs.reading.field.Lts as lts
-use Rattle.table.proofs.limits.rect_good.Reads as rect-good-reads
+use Rattle.limits.proofs.rect_good.Reads as rect-good-reads
 use Rattle.table.proofs.reading.rect_of.Reads as rect-of-reads
 use Rattle.table.proofs.reading.starts.Reads as starts-reads
 

@@ -6,7 +6,7 @@ use Rattle.table.proofs.reading.header.Statement.{statement}
 use Rattle.table.proofs.reading.header.Tie as tie
 use Rattle.table.proofs.reading.header.Reads as reads
 use Rattle.table.proofs.reading.header.Lts as lts
-use Rattle.table.proofs.limits.head.Reads as head-reads
+use Rattle.limits.proofs.head.Reads as head-reads
 use Rattle.table.proofs.reading.starts.Reads as starts-reads
 
 -- src/reading.rt:33:9

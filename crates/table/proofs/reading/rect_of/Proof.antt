@@ -5,8 +5,8 @@ use Rattle.table.proofs.reading.rect_of.Statement.{statement}
 use Rattle.table.proofs.reading.rect_of.Tie as tie
 use Rattle.table.proofs.reading.rect_of.Reads as reads
 use Rattle.table.proofs.reading.rect_of.Lts as lts
-use Rattle.table.proofs.sign.signed_byte.Reads as signed-byte-reads
-use Rattle.table.proofs.sign.signed_word.Reads as signed-word-reads
+use Rattle.arith.proofs.signed_byte.Reads as signed-byte-reads
+use Rattle.arith.proofs.signed_word.Reads as signed-word-reads
 
 -- src/reading.rt:64:30
 shared-slice-read-signed-byte : tie.Need-shared-slice-read-signed-byte

@@ -1,7 +1,7 @@
 use denote.Ref.{now}
 use lib.ListN.{length-drop}
 use Rattle.table.proofs.Encoded.{length-head, length-rects, rects-snoc}
-use Rattle.table.specs.declared.layout.Table.{Table}
+use Rattle.layout.specs.declared.Table.{Table}
 use Rattle.arith.proofs.Parts.{tail-is, tail-back}
 use Rattle.arith.proofs.Tabs.{length-tab, tab-suc}
 use native.Mathlib.Numerals.{add-one}
@@ -9,7 +9,7 @@ use lib.Seq.{take-at, drop-at, drop-drop, length-take-le}
 use lib.ListN.{length-append, take-append-drop}
 use mathlib.Core.List.{append-assoc, append-nil}
 use Rattle.table.specs.Format.{encodeHead, encodeRect, encodeRects, encode}
-use Rattle.table.specs.Contents.{rect, contents}
+use Rattle.layout.specs.Contents.{rect, contents}
 use Rattle.arith.specs.Tab.{tab}
 use lib.ListN.{length, take, drop}
 use mathlib.Core.List.{List, [], _∷_, _++_}

@@ -14,8 +14,8 @@ use Rattle.table.proofs.writing.put_rect.Statement.{statement}
 use Rattle.table.proofs.writing.put_rect.Tie as tie
 use Rattle.table.proofs.writing.put_rect.Reads as reads
 use Rattle.table.proofs.writing.put_rect.Lts as lts
-use Rattle.table.proofs.sign.byte_of.Reads as byte-of-reads
-use Rattle.table.proofs.sign.word_of.Reads as word-of-reads
+use Rattle.arith.proofs.byte_of.Reads as byte-of-reads
+use Rattle.arith.proofs.word_of.Reads as word-of-reads
 
 -- src/writing.rt:42:9
 word-of-requires : tie.Need-word-of-requires

@@ -1,8 +1,8 @@
 use Rattle.table.proofs.Encoded.{length-file}
-use Rattle.table.proofs.Granted.{granted}
+use Rattle.limits.proofs.Granted.{granted}
 use Rattle.table.specs.Writing.{writeSays, outputOf}
 use Rattle.table.specs.Format.{encode}
-use Rattle.table.specs.Contents.{contents}
+use Rattle.layout.specs.Contents.{contents}
 use denote.Ref.{now}
 use borrow.Author.Tests.{le-leb, lt-leb, not-true, not-false}
 use lib.ListN.{drop}
@@ -15,7 +15,7 @@ use Rattle.table.proofs.writing.write.Statement.{statement}
 use Rattle.table.proofs.writing.write.Tie as tie
 use Rattle.table.proofs.writing.write.Reads as reads
 use Rattle.table.proofs.writing.write.Lts as lts
-use Rattle.table.proofs.accept.accepted.Reads as accepted-reads
+use Rattle.limits.proofs.accepted.Reads as accepted-reads
 use Rattle.table.proofs.writing.put.Reads as put-reads
 
 -- src/writing.rt:76:9

@@ -1,0 +1,5 @@
+pub mod Edges
+pub mod Bounds
+pub mod Values
+pub mod Asked
+pub mod Granted

@@ -1,0 +1,127 @@
+use Rattle.limits.specs.declared.figure.Figure.the-variants.{Loss}
+use Rattle.limits.proofs.Asked.{drops-bounds}
+use Rattle.layout.specs.Measure.{lossFigure}
+use Rattle.limits.specs.Figures.{figureOf}
+use lib.Pow.{pow-pos, pow-mono, pow-add}
+use mathlib.Core.Path.{_≡_, refl, sym, ap, ap₂, _∙_, subst}
+use borrow.Author.Tests.{not-true, not-false}
+use Prim.Native.Nat.{ℕ, _+_, _-_, _*_, _^_, _≤_, _<_}
+use native.Mathlib.Nat.{mul-le-mul}
+use native.Mathlib.Omega.{arith}
+use borrow.Author.Needs.{needs}
+use Rattle.limits.proofs.figure.loss.Statement.{statement}
+use Rattle.limits.proofs.figure.loss.Tie as tie
+use Rattle.limits.proofs.figure.loss.Reads as reads
+use Rattle.limits.proofs.figure.loss.Lts as lts
+use Rattle.arith.proofs.power.Reads as power-reads
+use Rattle.limits.proofs.header.bits_good.Reads as bits-good-reads
+use Rattle.limits.proofs.header.drops_good.Reads as drops-good-reads
+use Rattle.layout.proofs.columns.Reads as columns-reads
+use Rattle.limits.proofs.figure.dropped.Reads as dropped-reads
+use Rattle.layout.proofs.rows.Reads as rows-reads
+
+-- a power of two that is at most 2^m
+power-bounds : {q p : ℕ} (m : ℕ) → q ≤ m → p ≡ 2 ^ q → (1 ≤ p) × (p ≤ 2 ^ m)
+power-bounds {q} m h e = (subst (λ x. 1 ≤ x) (sym e) (pow-pos q), subst (λ x. x ≤ 2 ^ m) (sym e) (pow-mono h))
+
+-- src/measure.rt:72:9
+bits-good-requires : tie.Need-bits-good-requires
+bits-good-requires c κs = search needs
+
+-- src/measure.rt:73:9
+returns : tie.Need-returns
+unfolding figureOf
+returns c = rw (sym (c .before .bits-good .ensures) ∙ not-true _ (c .if1 .taken))
+
+-- src/measure.rt:75:9
+drops-good-requires : tie.Need-drops-good-requires
+drops-good-requires c κs = search needs
+
+-- src/measure.rt:76:9
+returns-2 : tie.Need-returns-2
+unfolding figureOf
+returns-2 c = rw (sym (c .before .before .before .bits-good .ensures) ∙ not-false _ (c .before .before .if1 .left), sym (c .before .drops-good .ensures) ∙ not-true _ (c .if2 .taken))
+
+-- src/measure.rt:78:13
+columns-requires : tie.Need-columns-requires
+columns-requires c κs = search needs
+
+-- src/measure.rt:78:13
+cast-n : tie.Need-cast-n
+cast-n c = search needs
+
+-- src/measure.rt:79:16
+rows-requires : tie.Need-rows-requires
+rows-requires c κs = search needs
+
+-- src/measure.rt:79:16
+cast-area : tie.Need-cast-area
+cast-area c = search needs
+
+-- src/measure.rt:79:16
+mul-area : tie.Need-mul-area
+mul-area c = let h = mul-le-mul (c .rows .ensures .1) (c .before .columns .ensures .1) in omega arith
+
+-- src/measure.rt:80:35
+power-requires : tie.Need-power-requires
+power-requires c κs = search needs
+
+-- src/measure.rt:80:55
+power-requires-2 : tie.Need-power-requires-2
+power-requires-2 c κs = search needs
+
+-- src/measure.rt:80:75
+power-requires-3 : tie.Need-power-requires-3
+power-requires-3 c κs = search needs
+
+-- src/measure.rt:80:18
+dropped-requires : tie.Need-dropped-requires
+dropped-requires c κs =
+    let s = c .before .before .before .before .before in
+    let d = drops-bounds _ _ _ _ (sym (s .before .before .before .bits-good .ensures) ∙ not-false _ (s .before .before .if1 .left))
+    (sym (s .before .drops-good .ensures) ∙ not-false _ (s .if2 .left)) in
+    let x = power-bounds 11 (d .0) (c .before .before .power .ensures .0 (omega arith)) in
+    let y = power-bounds 8 (d .1) (c .before .power2 .ensures .0 (omega arith)) in
+    let z = power-bounds 8 (d .2) (c .power3 .ensures .0 (omega arith)) in
+    let n = c .before .before .before .before .columns .ensures .1 in
+    ((mul-le-mul (c .before .before .before .rows .ensures .1) n, n), (x .0, x .1, y .0, y .1, z .0, z .1))
+
+-- src/measure.rt:69:1
+returns-3 : tie.Need-returns-3
+unfolding figureOf lossFigure
+returns-3 c =
+    let s = c .before .before .before .before .before .before in
+    let e = sym (s .before .before .before .bits-good .ensures) ∙ not-false _ (s .before .before .if1 .left) in
+    let f = sym (s .before .drops-good .ensures) ∙ not-false _ (s .if2 .left) in
+    let d = drops-bounds _ _ _ _ e f in
+    let t = s .before .before .before .before .args .t in
+    rw (
+      e,
+      f,
+      pow-add 2 (t .q1) (t .q2),
+      ← (c .before .before .before .power .ensures .0 (omega arith)),
+      ← (c .before .before .power2 .ensures .0 (omega arith)),
+      ← (c .before .power3 .ensures .0 (omega arith)),
+      ← (c .before .before .before .before .before .columns .ensures .0),
+      ← (c .before .before .before .before .rows .ensures .0),
+    )
+    (ap Loss (c .dropped .ensures))
+
+pub loss-spec : {M : Type 1} → statement M
+loss-spec =
+    tie.close
+    (tie.spec
+    bits-good-requires
+    returns
+    drops-good-requires
+    returns-2
+    columns-requires
+    cast-n
+    rows-requires
+    cast-area
+    mul-area
+    power-requires
+    power-requires-2
+    power-requires-3
+    dropped-requires
+    returns-3)

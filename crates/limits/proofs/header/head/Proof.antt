@@ -1,0 +1,65 @@
+use Rattle.limits.specs.Limits.{headSays}
+use mathlib.Core.Path.{sym, _∙_}
+use borrow.Author.Tests.{not-true, not-false}
+use borrow.Author.Needs.{needs}
+use Rattle.limits.proofs.header.head.Statement.{statement}
+use Rattle.limits.proofs.header.head.Tie as tie
+use Rattle.limits.proofs.header.head.Reads as reads
+use Rattle.limits.proofs.header.head.Lts as lts
+use Rattle.limits.proofs.header.bits_good.Reads as bits-good-reads
+use Rattle.limits.proofs.header.drops_good.Reads as drops-good-reads
+use Rattle.limits.proofs.header.word_good.Reads as word-good-reads
+
+-- src/limits.rt:51:9
+bits-good-requires : tie.Need-bits-good-requires
+bits-good-requires c κs = search needs
+
+-- src/limits.rt:52:9
+returns : tie.Need-returns
+unfolding headSays
+returns c = rw (sym (c .before .bits-good .ensures) ∙ not-true _ (c .if1 .taken))
+
+-- src/limits.rt:54:9
+drops-good-requires : tie.Need-drops-good-requires
+drops-good-requires c κs = search needs
+
+-- src/limits.rt:55:9
+returns-2 : tie.Need-returns-2
+unfolding headSays
+returns-2 c = rw (sym (c .before .before .before .bits-good .ensures) ∙ not-false _ (c .before .before .if1 .left), sym (c .before .drops-good .ensures) ∙ not-true _ (c .if2 .taken))
+
+-- src/limits.rt:57:9
+word-good-requires : tie.Need-word-good-requires
+word-good-requires c κs = search needs
+
+-- src/limits.rt:58:9
+returns-3 : tie.Need-returns-3
+unfolding headSays
+returns-3 c =
+    rw (
+      sym (c .before .before .before .before .before .bits-good .ensures) ∙ not-false _ (c .before .before .before .before .if1 .left),
+      sym (c .before .before .before .drops-good .ensures) ∙ not-false _ (c .before .before .if2 .left),
+      sym (c .before .word-good .ensures) ∙ not-true _ (c .if3 .taken),
+    )
+
+-- src/limits.rt:48:1
+returns-4 : tie.Need-returns-4
+unfolding headSays
+returns-4 c =
+    rw (
+      sym (c .before .before .before .before .before .bits-good .ensures) ∙ not-false _ (c .before .before .before .before .if1 .left),
+      sym (c .before .before .before .drops-good .ensures) ∙ not-false _ (c .before .before .if2 .left),
+      sym (c .before .word-good .ensures) ∙ not-false _ (c .if3 .left),
+    )
+
+pub head-spec : {M : Type 1} → statement M
+head-spec =
+    tie.close
+    (tie.spec
+    bits-good-requires
+    returns
+    drops-good-requires
+    returns-2
+    word-good-requires
+    returns-3
+    returns-4)
