@@ -6,3 +6,4 @@ pub mod Encoded
 pub mod Complete
 pub mod Numbers
 pub mod Theorems
+pub mod Strips

@@ -21,7 +21,7 @@ use Rattle.layout.specs.declared.Verdict.the-variants.{Accepted, Refused}
 use Rattle.layout.specs.Contents.{Contents, noRect}
 use Rattle.limits.specs.Limits.{rectGood, valueGood}
 use Rattle.layout.specs.Answers.{ask}
-use Rattle.table.specs.Format.{Bytes, Outcome, refused, loaded, after, marked, headOf, rectOf, plus, headerSays, fieldSays, atEnd, fieldsOf, parseOf, fitOf, loadOf, encodeRect, encodeRects, encodeHead, encode}
+use Rattle.table.specs.Format.{Bytes, Outcome, refused, loaded, after, marked, headOf, rectOf, plus, headerSays, fieldSays, atEnd, fieldsOf, parseOf, fitOf, loadOf, verdictOf, encodeRect, encodeRects, encodeHead, encode}
 use Rattle.limits.proofs.Asked.{ask-accepted, HeadTests}
 use Rattle.table.proofs.Asked.{FieldTests, field-accepted, HeaderTests, header-accepted}
 use Rattle.table.proofs.Structs.{with-rects}
@@ -43,6 +43,15 @@ end-loaded c d e = go (leb 1 (length (c .rects))) (leb-true 1 (length (c .rects)
     go : (b : Bool) → (b ≡ true → 1 ≤ length (c .rects)) → after (ask 9 b Accepted) (loaded c) ≡ loaded d → (1 ≤ length (c .rects)) × (c ≡ d)
     go true f e = (f refl, same-contents e)
     go false f e = absurd (let z : _≡_ {A = ℕ} 0 1 = cc in omega arith)
+
+-- an outcome, from its verdict
+pub refused-from : (o : Outcome) (n p : ℕ) → verdictOf o ≡ Refused n p → o ≡ refused n p
+refused-from (refused m q) n p e = cc
+refused-from (loaded c) n p e = absurd (let z : _≡_ {A = ℕ} 0 1 = cc in omega arith)
+
+pub loaded-from : (o : Outcome) → verdictOf o ≡ Accepted → (c : Contents) × (o ≡ loaded c)
+loaded-from (refused m q) e = absurd (let z : _≡_ {A = ℕ} 0 1 = cc in omega arith)
+loaded-from (loaded c) e = (c, refl)
 
 -- ---- the bytes of a field
 

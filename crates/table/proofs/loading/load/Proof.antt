@@ -1,4 +1,4 @@
-use Rattle.table.proofs.Sound.{parse-sound}
+use Rattle.table.proofs.Sound.{refused-from, loaded-from, parse-sound}
 use Rattle.table.proofs.Structs.{contents-tableOf}
 use Rattle.table.specs.Format.{Outcome, refused, loaded, after, parseOf, fitOf, loadOf, verdictOf, tableFrom}
 use Rattle.layout.specs.Answers.{ask}
@@ -22,15 +22,6 @@ use Rattle.table.proofs.loading.load.Lts as lts
 use Rattle.limits.proofs.value_good.Reads as value-good-reads
 use Rattle.table.proofs.loading.parse.Reads as parse-reads
 use Rattle.table.proofs.loading.refused.Reads as refused-reads
-
--- an outcome, from its verdict
-refused-from : (o : Outcome) (n p : ℕ) → verdictOf o ≡ Refused n p → o ≡ refused n p
-refused-from (refused m q) n p e = cc
-refused-from (loaded c) n p e = absurd (let z : _≡_ {A = ℕ} 0 1 = cc in omega arith)
-
-loaded-from : (o : Outcome) → verdictOf o ≡ Accepted → (c : Contents) × (o ≡ loaded c)
-loaded-from (refused m q) e = absurd (let z : _≡_ {A = ℕ} 0 1 = cc in omega arith)
-loaded-from (loaded c) e = (c, refl)
 
 -- questions 1 to 9 were answered yes: the struct t holds the table c that was read, and what is left of question 10 is its own test
 record Read (bs : List ℕ) (t : Table) : Type 0 where

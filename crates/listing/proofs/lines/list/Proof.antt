@@ -1,0 +1,94 @@
+use Rattle.listing.specs.Listing.{refusedLine, tableLines, listingOf}
+use Rattle.table.proofs.Sound.{refused-from, loaded-from, load-sound}
+use Rattle.table.specs.Format.{loadOf, verdictOf, tableFrom}
+use Rattle.limits.specs.Limits.{bitsGood, dropsGood}
+use Rattle.layout.specs.declared.Verdict.the-variants.{Accepted, Refused}
+use Rattle.layout.specs.declared.Verdict.{Verdict}
+use Rattle.layout.specs.declared.Table.{Table}
+use mathlib.Core.List.{List}
+use mathlib.Core.Bool.{true}
+use mathlib.Core.Path.{_≡_, sym, ap, _∙_, subst}
+use Prim.Native.Nat.{ℕ, _≤_}
+use borrow.Author.Needs.{needs}
+use Rattle.listing.proofs.lines.list.Statement.{statement}
+use Rattle.listing.proofs.lines.list.Tie as tie
+use Rattle.listing.proofs.lines.list.Reads as reads
+use Rattle.listing.proofs.lines.list.Lts as lts
+use Rattle.listing.proofs.lines.put_refused.Reads as put-refused-reads
+use Rattle.listing.proofs.lines.put_table.Reads as put-table-reads
+use Rattle.table.proofs.load.Reads as load-reads
+
+-- the file was accepted: the struct holds its table, whose header and number of rectangles are within the limits
+record Read (bs : List ℕ) (t : Table) : Type 0 where
+  listed : listingOf (loadOf bs) ≡ tableLines t
+  drops : (bitsGood (t .b) ≡ true) × (dropsGood (t .b) (t .q1) (t .q2) (t .q3) ≡ true)
+  few : t .count ≤ 16
+
+read : (bs : List ℕ) (v : Verdict) (t : Table) → v ≡ verdictOf (loadOf bs) → t ≡ tableFrom (loadOf bs) → v ≡ Accepted → Read bs t
+unfolding listingOf
+read bs v t e h a =
+    let l = loaded-from (loadOf bs) (sym e ∙ a) in
+    let p = load-sound bs (l .0) (l .1) .0 in
+    subst (Read bs) (sym (h ∙ ap tableFrom (l .1)))
+    record { listed = ap listingOf (l .1); drops = (p .head .bits, p .head .drops); few = p .most }
+
+refused-list : (bs : List ℕ) (v : Verdict) (n p : ℕ) → v ≡ verdictOf (loadOf bs) → v ≡ Refused n p → listingOf (loadOf bs) ≡ refusedLine n
+unfolding listingOf
+refused-list bs v n p e a = ap listingOf (refused-from (loadOf bs) n p (sym e ∙ a))
+
+-- src/lines.rt:107:9
+load-requires : tie.Need-load-requires
+load-requires c κs = search needs
+
+-- src/lines.rt:110:26
+enum-known-v : tie.Need-enum-known-v
+enum-known-v c = search needs
+
+-- src/lines.rt:110:40
+put-refused-requires : tie.Need-put-refused-requires
+put-refused-requires c κs = search needs
+
+-- src/lines.rt:112:17
+enum-told : tie.Need-enum-told
+enum-told c = search needs
+
+-- src/lines.rt:113:13
+put-table-requires : tie.Need-put-table-requires
+put-table-requires c κs =
+    let l = c .before .before .before .before .load .ensures in
+    let r = read _ _ _ (l .0) (l .1) (c .before .before .enum-told .given .1) in
+    (r .drops, (r .few, search needs))
+
+-- src/lines.rt:103:1
+same-length : tie.Need-same-length
+same-length c = search needs
+
+-- src/lines.rt:103:1
+returns : tie.Need-returns
+returns c =
+    let l = c .before .before .before .before .before .before .before .load .ensures in
+    rw (refused-list _ _ _ _ (l .0) (c .before .before .before .before .before .v .given .1)) (c .before .before .put-refused .ensures)
+
+-- src/lines.rt:103:1
+same-length-2 : tie.Need-same-length-2
+same-length-2 c = search needs
+
+-- src/lines.rt:103:1
+returns-2 : tie.Need-returns-2
+returns-2 c =
+    let l = c .before .before .before .before .before .before .before .load .ensures in
+    rw (read _ _ _ (l .0) (l .1) (c .before .before .before .before .before .enum-told .given .1) .listed) (c .before .before .put-table .ensures)
+
+pub list-spec : {M : Type 1} → statement M
+list-spec =
+    tie.close
+    (tie.spec
+    load-requires
+    enum-known-v
+    put-refused-requires
+    enum-told
+    put-table-requires
+    same-length
+    returns
+    same-length-2
+    returns-2)

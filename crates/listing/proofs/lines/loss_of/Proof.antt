@@ -1,0 +1,49 @@
+use Rattle.limits.specs.Figures.{figureOf}
+use Rattle.limits.specs.Limits.{bitsGood, dropsGood}
+use Rattle.layout.specs.Measure.{lossFigure}
+use Rattle.limits.specs.declared.figure.Figure.the-variants.{Loss}
+use Rattle.layout.specs.declared.Table.{Table}
+use Rattle.layout.specs.declared.Rect.{Rect}
+use mathlib.Core.Bool.{true}
+use mathlib.Core.Path.{_≡_, sym, _∙_}
+use Prim.Native.Nat.{ℕ}
+use native.Mathlib.Omega.{arith}
+use borrow.Author.Needs.{needs}
+use Rattle.listing.proofs.lines.loss_of.Statement.{statement}
+use Rattle.listing.proofs.lines.loss_of.Tie as tie
+use Rattle.listing.proofs.lines.loss_of.Reads as reads
+use Rattle.listing.proofs.lines.loss_of.Lts as lts
+use Rattle.limits.proofs.loss.Reads as loss-reads
+
+figure-is : (t : Table) (r : Rect) → (bitsGood (t .b) ≡ true) × (dropsGood (t .b) (t .q1) (t .q2) (t .q3) ≡ true) → figureOf t r ≡ Loss (lossFigure t r)
+unfolding figureOf
+figure-is t r h = rw (h .0, h .1)
+
+-- src/lines.rt:35:9
+loss-requires : tie.Need-loss-requires
+loss-requires c κs = search needs
+
+-- src/lines.rt:37:22
+enum-known-f : tie.Need-enum-known-f
+enum-known-f c = search needs
+
+-- src/lines.rt:38:34
+enum-told : tie.Need-enum-told
+enum-told c = search needs
+
+-- src/lines.rt:31:1
+returns : tie.Need-returns
+returns c =
+    let s = c .before .before .before .before in
+    let e = sym (figure-is (s .args .t) (s .args .r) (s .pre)) ∙ sym (c .before .before .before .loss .ensures) ∙ c .before .f .given .1 in
+    cc
+
+-- src/lines.rt:31:1
+returns-2 : tie.Need-returns-2
+returns-2 c =
+    let s = c .before .before .before in
+    let e = sym (figure-is (s .args .t) (s .args .r) (s .pre)) ∙ sym (c .before .before .loss .ensures) ∙ c .enum-told .given .1 in
+    absurd (let z : _≡_ {A = ℕ} 0 1 = cc in omega arith)
+
+pub loss-of-spec : {M : Type 1} → statement M
+loss-of-spec = tie.close (tie.spec loss-requires enum-known-f enum-told returns returns-2)
