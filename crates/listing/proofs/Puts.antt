@@ -27,19 +27,19 @@ module _ {o o1 s : List ℕ} {a b : ℕ} (p : Put o a s o1 b) where
   kept =
       ap length (p .now)
       ∙ (let l = length-append (take a o ++ s) (drop (a + length s) o) in
-        let h = head-length in
-        let d = length-drop (a + length s) o in
-        let n = p .next-is in
-        let r = p .room in
-        omega arith)
+      let h = head-length in
+      let d = length-drop (a + length s) o in
+      let n = p .next-is in
+      let r = p .room in
+      omega arith)
 
 pub put-none : (o : List ℕ) (a : ℕ) → a ≤ length o → Put o a [] o a
 put-none o a h =
     let z : a + 0 ≡ a = omega arith in
-    record
-    { now = sym (ap (λ n. take a o ++ [] ++ drop n o) z ∙ ap (λ l. l ++ drop a o) (append-nil (take a o)) ∙ take-append-drop a o)
-    ; next-is = omega arith
-    ; room = h
+    record {
+      now = sym (ap (λ n. take a o ++ [] ++ drop n o) z ∙ ap (λ l. l ++ drop a o) (append-nil (take a o)) ∙ take-append-drop a o);
+      next-is = omega arith;
+      room = h;
     }
 
 pub put-then : {o o1 o2 s t : List ℕ} {a b c : ℕ} → Put o a s o1 b → Put o1 b t o2 c → Put o a (s ++ t) o2 c
@@ -48,20 +48,20 @@ put-then {o} {o1} {o2} {s} {t} {a} {b} {c} p q =
     let n = p .next-is in
     let m = q .next-is in
     let e : b + length t ≡ a + length (s ++ t) = omega arith in
-    record
-    { now =
-        q .now
-        ∙ ap₂ (λ x y. x ++ t ++ y) (before p)
+    record {
+      now =
+          q .now
+          ∙ ap₂ (λ x y. x ++ t ++ y) (before p)
           (sym (drop-drop (length t) b o1) ∙ ap (drop (length t)) (after p) ∙ drop-drop (length t) b o ∙ ap (λ k. drop k o) e)
-        ∙ ap (λ x. x ++ drop (a + length (s ++ t)) o) (append-assoc (take a o) s t)
-    ; next-is = omega arith
-    ; room = let r = q .room in let k = kept p in omega arith
+          ∙ ap (λ x. x ++ drop (a + length (s ++ t)) o) (append-assoc (take a o) s t);
+      next-is = omega arith;
+      room = let r = q .room in let k = kept p in omega arith;
     }
 
 pub put-byte : (o : List ℕ) (a v : ℕ) → a < length o → Put o a (v ∷ []) (set o a v) (a + 1)
 put-byte o a v h =
-    record
-    { now = set-split o a v h ∙ ap (λ n. take a o ++ v ∷ drop n o) (sym (add-one a)) ∙ sym (append-snoc (take a o) v (drop (a + 1) o))
-    ; next-is = refl
-    ; room = omega arith
+    record {
+      now = set-split o a v h ∙ ap (λ n. take a o ++ v ∷ drop n o) (sym (add-one a)) ∙ sym (append-snoc (take a o) v (drop (a + 1) o));
+      next-is = refl;
+      room = omega arith;
     }

@@ -88,16 +88,16 @@ returns c =
     let f : SFits w16 (r .weight) = search needs in
     let x = c .before .before .before .before .before .before .before .before .before .before .before .put-three .ensures in
     let y = c .before .before .before .before .before .before .before .put-three2 .ensures in
-    let z = rw (toZ-ofZ f) at (c .before .before .put-signed .ensures) in
-    ( rw
-      ( ← (s .before .before .before .before .rows .ensures .0)
-      , ← (s .before .before .before .columns .ensures .0)
-      , ← (s .before .before .column-word .ensures)
-      , ← (s .before .window-word .ensures)
-      , ← (s .loss-of .ensures)
+    let z = rw (toZ-ofZ f) at (c .before .before .put-signed .ensures) in (
+      rw (
+        ← (s .before .before .before .before .rows .ensures .0),
+        ← (s .before .before .before .columns .ensures .0),
+        ← (s .before .before .column-word .ensures),
+        ← (s .before .window-word .ensures),
+        ← (s .loss-of .ensures),
       )
-      (put-then (put-then (x .0) (y .0)) (z .0))
-    , omega arith
+          (put-then (put-then (x .0) (y .0)) (z .0)),
+      omega arith,
     )
 
 pub put-rect-spec : {M : Type 1} → statement M

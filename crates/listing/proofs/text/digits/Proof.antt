@@ -86,12 +86,12 @@ loop-again c =
     let m = c .before .loop .m in
     let buf = c .before .loop .buf in
     let p = not-first k m (i .1) (c .loop-test .taken) in
-    let e : suc (k - 1) ≡ k = omega arith in
-    ( omega arith
-    , rw e (fewer k m (i .1))
-    , subst (λ j. spell j (m / 10) ++ drop j (set buf k (48 + m % 10)) ≡ spell 20 (c .before .before .args .n)) (sym e)
-        (turn k m buf (c .loop-test .taken) (omega arith) ∙ i .2)
-    , simp length-set (i .3)
+    let e : suc (k - 1) ≡ k = omega arith in (
+      omega arith,
+      rw e (fewer k m (i .1)),
+      subst (λ j. spell j (m / 10) ++ drop j (set buf k (48 + m % 10)) ≡ spell 20 (c .before .before .args .n)) (sym e)
+          (turn k m buf (c .loop-test .taken) (omega arith) ∙ i .2),
+      simp length-set (i .3),
     )
 
 -- src/text.rt:32:19

@@ -67,11 +67,11 @@ returns c =
     let a = c .before .before .args in
     let i = c .before .loop .inv in
     let e : c .before .loop .j ≡ length (now (a .text)) = omega arith in
-    record
-    { now = i .1 ∙ ap (paste (now (a .out)) (a .at) (now (a .text))) e
-        ∙ ap (λ l. take (a .at) (now (a .out)) ++ l ++ drop (a .at + length (now (a .text))) (now (a .out))) (take-length (now (a .text)))
-    ; next-is = refl
-    ; room = c .before .before .pre
+    record {
+      now = i .1 ∙ ap (paste (now (a .out)) (a .at) (now (a .text))) e
+          ∙ ap (λ l. take (a .at) (now (a .out)) ++ l ++ drop (a .at + length (now (a .text))) (now (a .out))) (take-length (now (a .text)));
+      next-is = refl;
+      room = c .before .before .pre;
     }
 
 pub put-bytes-spec : {M : Type 1} → statement M
