@@ -1,6 +1,7 @@
 -- Laws of `all`.
 -- Assumes nothing.
-use Prim.Native.Nat.{ℕ, zero, suc, _<_}
+use Prim.Native.Nat.{ℕ, zero, suc, _+_, _≤_, _<_}
+use native.Mathlib.Omega.{arith}
 use native.Mathlib.Nat.{le-step, lt-suc-self, le-suc-iff, suc-inj, not-suc-le-zero}
 use mathlib.Core.Path.{_≡_, refl, sym, ap, subst, ap₂}
 use mathlib.Core.Logic.{⊎-elim}
@@ -33,3 +34,9 @@ pub all-cong : (n : ℕ) {f g : ℕ → Bool} → ((k : ℕ) → k < n → f k �
 unfolding all
 all-cong zero h = refl
 all-cong (suc n) h = ap₂ _&&_ (all-cong n (λ k p. h k (le-step p))) (h n (lt-suc-self n))
+
+-- what holds of each index below k, and of k, holds of each below k + 1
+pub up-to {ℓ} : {P : ℕ → Type ℓ} (k : ℕ) → ((j : ℕ) → j < k → P j) → P k → (j : ℕ) → j < k + 1 → P j
+up-to {P = P} k h p j l =
+    let m : j < suc k = omega arith in
+    ⊎-elim (h j) (λ (e : suc j ≡ suc k). subst P (sym (suc-inj e)) p) (le-suc-iff .0 m)

@@ -2,6 +2,7 @@ pub mod Bools
 pub mod Sums
 pub mod Maxima
 pub mod Alls
+pub mod Firsts
 pub mod Tabs
 pub mod Cut
 pub mod Ints

@@ -1,6 +1,7 @@
 pub mod Sum
 pub mod Largest
 pub mod All
+pub mod First
 pub mod Tab
 pub mod Part
 pub mod Diff

@@ -1,0 +1,4 @@
+pub mod Dropped
+pub mod Accurate
+pub mod Fitting
+pub mod Depends

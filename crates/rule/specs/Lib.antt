@@ -1,0 +1,4 @@
+pub mod Sums
+pub mod Pixels
+pub mod Accuracy
+pub mod Questions
