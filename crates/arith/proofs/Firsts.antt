@@ -4,11 +4,11 @@ use Prim.Native.Nat.{ℕ, zero, suc, _≤_, _<_}
 use native.Mathlib.Nat.{not-suc-le-zero}
 use native.Mathlib.Omega.{arith}
 use mathlib.Core.Path.{_≡_, refl, ap}
-use mathlib.Core.Bool.{Bool, true, false}
+use mathlib.Core.Bool.{Bool, true, false, cond}
 use lib.Dec.{T}
 use Rattle.arith.specs.All.{all}
 use Rattle.arith.specs.First.{firstNot}
-use Rattle.arith.proofs.Alls.{all-at}
+use Rattle.arith.proofs.Alls.{all-fails, all-of}
 use Rattle.arith.proofs.Bools.{true-of}
 
 -- f fails at k and holds before it
@@ -26,3 +26,31 @@ unfolding firstNot
 first-none zero f all = refl
 first-none (suc n) f all =
     rw (true-of (f 0) (all 0 (omega arith))) (ap suc (first-none n (λ j. f (suc j)) (λ j l. all (suc j) (omega arith))))
+
+-- f holds before the first place where it fails
+pub first-before : (n : ℕ) (f : ℕ → Bool) (j : ℕ) → j < firstNot n f → T (f j)
+unfolding firstNot
+first-before zero f j h = absurd (not-suc-le-zero h)
+first-before (suc n) f j h = go (first-before n (λ k. f (suc k))) (f 0) refl j h
+  where
+    go : ((j : ℕ) → j < firstNot n (λ k. f (suc k)) → T (f (suc j))) → (b : Bool) → f 0 ≡ b → (j : ℕ) → j < cond b (suc (firstNot n (λ k. f (suc k)))) 0 → T (f j)
+    go before true e zero h = rw e tt
+    go before true e (suc j) h = before j (omega arith)
+    go before false e j h = absurd (not-suc-le-zero h)
+
+-- and it fails there
+pub first-fails : (n : ℕ) (f : ℕ → Bool) → firstNot n f < n → f (firstNot n f) ≡ false
+unfolding firstNot
+first-fails zero f h = absurd (not-suc-le-zero h)
+first-fails (suc n) f h = go (first-fails n (λ k. f (suc k))) (f 0) refl h
+  where
+    go : (firstNot n (λ k. f (suc k)) < n → f (suc (firstNot n (λ k. f (suc k)))) ≡ false) → (b : Bool) → f 0 ≡ b → cond b (suc (firstNot n (λ k. f (suc k)))) 0 < suc n → f (cond b (suc (firstNot n (λ k. f (suc k)))) 0) ≡ false
+    go fails true e h = fails (omega arith)
+    go fails false e h = e
+
+-- f fails somewhere exactly when the first such place is below n
+pub first-below : (n : ℕ) (f : ℕ → Bool) → firstNot n f < n → all n f ≡ false
+first-below n f h = all-fails n f (firstNot n f) h (first-fails n f h)
+
+pub first-beyond : (n : ℕ) (f : ℕ → Bool) → n ≤ firstNot n f → T (all n f)
+first-beyond n f h = all-of n f (λ k l. first-before n f k (omega arith))

@@ -8,6 +8,7 @@ use mathlib.Core.Bool.{Bool, true, false, not, cond}
 use lib.Dec.{T, ltb, leb, ltb→lt, nltb→le, leb→le, le→leb, lt→ltb}
 use lib.IntN.{ℤ, pos, negsuc, negℤ, subℕ, _+ℤ_, _-ℤ_, _*ℤ_, natAbs}
 use lib.Signed.{_≤ℤ_, _<ℤ_, leZ, ltZ, mag}
+use borrow.Author.Tests.{lt-ltb, le-ltb}
 use Rattle.arith.proofs.Bools.{bool-eq}
 use Rattle.arith.specs.Sum.{sum, sumℤ}
 use Rattle.arith.specs.Diff.{Diff}
@@ -32,6 +33,12 @@ diff-sub a b = go (ltb a b) (ltb→lt a b) (nltb→le a b)
     go : (c : Bool) → (T c → a < b) → (T (not c) → b ≤ a) → Diff (cond c (negsuc (b - suc a)) (pos (a - b))) a b
     go true f g = let h = f tt in record { is = omega arith }
     go false f g = let h = g tt in record { is = omega arith }
+
+pub sub-high : (a b : ℕ) → b ≤ a → subℕ a b ≡ pos (a - b)
+sub-high a b h = rw (le-ltb a b h)
+
+pub sub-low : (a b : ℕ) → a < b → subℕ a b ≡ negsuc (b - suc a)
+sub-low a b h = rw (lt-ltb a b h)
 
 -- the same integer, both numbers raised alike
 pub diff-shift : {z : ℤ} {p n q m : ℕ} → Diff z p n → p + m ≡ q + n → Diff z q m

@@ -6,6 +6,7 @@ pub mod Firsts
 pub mod Tabs
 pub mod Cut
 pub mod Ints
+pub mod Differences
 pub mod Words
 pub mod Floors
 pub mod Every

@@ -1,14 +1,14 @@
 -- Laws of two's complement, for any number of bits.
 -- Assumes nothing.
 use Prim.Native.Nat.{ℕ, zero, suc, _+_, _-_, _*_, _/_, _^_, _≤_, _<_, zero-le}
-use native.Mathlib.Nat.{pow-succ', zero-div, div-lt-iff-lt-mul}
+use native.Mathlib.Nat.{pow-succ', zero-div, div-lt-iff-lt-mul, lt-of-lt-of-le}
 use native.Mathlib.Omega.{arith}
 use mathlib.Core.Path.{_≡_, refl, sym, ap, _∙_, subst}
 use mathlib.Core.Bool.{Bool, true, false, cond, not, _&&_}
 use lib.Dec.{T, ltb, leb, ltb→lt, nltb→le, lt→ltb, leb→le, le→leb}
 use lib.IntN.{ℤ, pos, negsuc, negℤ}
 use lib.Signed.{mag, leZ, ltZ, _≤ℤ_, _<ℤ_}
-use lib.Pow.{pow-pos}
+use lib.Pow.{pow-pos, pow-mono}
 use mir.Facts.{and-yes, yes-and}
 use borrow.Author.Tests.{lt-ltb, le-ltb}
 use Rattle.arith.specs.Twos.{signed, unsigned, fitsSigned}
@@ -108,3 +108,7 @@ floor-fits-neg w t (suc n) =
     bool-eq _ _
     (λ h. le→leb _ _ (div-lt-iff-lt-mul (pow-pos t) .0 (fits-mag w (negsuc (n / 2 ^ t)) h)))
     (λ h. mag-fits w (negsuc (n / 2 ^ t)) (div-lt-iff-lt-mul (pow-pos t) .1 (leb→le _ _ h)))
+
+-- what fits a word fits a longer one
+pub fits-widen : (n m : ℕ) (z : ℤ) → n ≤ m → T (fitsSigned n z) → T (fitsSigned m z)
+fits-widen n m z l t = mag-fits m z (lt-of-lt-of-le (fits-mag n z t) (pow-mono (omega arith)))

@@ -1,8 +1,10 @@
 // Signed numbers and the words that hold them.
 ghost use mathlib.Core.Path.{_≡_};
-ghost use Prim.Native.Nat.{_+_, _*_, _<_};
+ghost use Prim.Native.Nat.{_+_, _*_, _≤_, _<_};
 ghost use Rattle.arith.specs.Diff.{Diff};
+ghost use Rattle.arith.specs.Part.{posPart, negPart};
 ghost use Rattle.arith.specs.Twos.{signed, unsigned};
+use crate::natural::monus;
 
 // z + 128
 pub fn biased_byte(z: i8) -> u32
@@ -18,6 +20,24 @@ pub fn biased_word(z: i16) -> u32
     ensures { λ r. ⌜ r < 65536 ⌝ }
 {
     ((z as i32) + 32768) as u32
+}
+
+// A signed number as above - below, of which one is 0.
+pub struct SignParts {
+    pub above: u32,
+    pub below: u32,
+}
+
+// The positive and the negative part of z.
+pub fn sign_parts(z: i16) -> SignParts
+    ensures { λ p. ⌜ (p .above ≡ posPart z) × (p .below ≡ negPart z) ⌝ }
+    ensures { λ p. ⌜ (p .above ≤ 32768) × (p .below ≤ 32768) ⌝ }
+{
+    let x = biased_word(z);
+    SignParts {
+        above: monus(x, 32768),
+        below: monus(32768, x),
+    }
 }
 
 // The byte of a signed number.

@@ -6,9 +6,8 @@ ghost use Rattle.layout.specs.Measure.{rowsOf, colsOf};
 ghost use Rattle.limits.specs.Limits.{valueGood, fitting};
 ghost use Rattle.limits.specs.Slots.{HeadGood, ShareOf, ExtremesOf};
 use crate::header::head;
-use arith::biased_word;
-use arith::monus;
 use arith::power;
+use arith::sign_parts;
 use layout::Rect;
 use layout::Table;
 use layout::Verdict;
@@ -33,13 +32,11 @@ pub struct Extremes {
 fn share(r: Rect) -> Extremes
     ensures { λ e. ⌜ ShareOf r e ⌝ }
 {
-    let x = biased_word(r.weight);
+    let p = sign_parts(r.weight);
     let n = area(r);
-    let above = monus(x, 32768) as u64;
-    let below = monus(32768, x) as u64;
     Extremes {
-        high: above * n,
-        low: below * n,
+        high: p.above as u64 * n,
+        low: p.below as u64 * n,
     }
 }
 

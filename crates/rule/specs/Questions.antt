@@ -1,15 +1,31 @@
 -- Questions on widths, scans and samples.
 -- Assumes nothing.
-use Prim.Native.Nat.{ℕ, _*_, _/_, _-_, _^_}
-use mathlib.Core.Bool.{Bool, _&&_}
+use Prim.Native.Nat.{ℕ, _*_, _/_}
+use mathlib.Core.Bool.{Bool, cond, _&&_}
 use mathlib.Core.List.{List}
 use lib.Dec.{leb, ltb, eqb}
 use lib.ListN.{getD}
+use Rattle.arith.specs.All.{all}
+use Rattle.arith.specs.First.{firstNot}
+use Rattle.layout.specs.declared.Verdict.{Verdict}
+use Rattle.layout.specs.declared.Verdict.the-variants.{Accepted, Refused}
+
+-- a question asked of each of 0 to n - 1: no ends the call with its number and the lowest place, yes goes on to the next
+unfoldable pub askEach : (number n : ℕ) → (ℕ → Bool) → Verdict → Verdict
+askEach number n test next = cond (all n test) next (Refused number (firstNot n test))
 
 -- question 12: L is from 1 to 1,024
 unfoldable pub widthGood : (l : ℕ) → Bool
 widthGood l = leb 1 l && leb l 1024
 
--- sample k is at most this limit
+-- question 17 on a lent scan: its length n is L·H with H from 1 to 65,535
+unfoldable pub heightGood : (l n : ℕ) → Bool
+heightGood l n = eqb n (l * (n / l)) && (leb 1 (n / l) && leb (n / l) 65535)
+
+-- question 20: r is below H, and c below L
+unfoldable pub placeGood : (l n r c : ℕ) → Bool
+placeGood l n r c = ltb r (n / l) && ltb c l
+
+-- question 18: sample k is at most this limit
 abbrev pub atMost : (limit : ℕ) → List ℕ → ℕ → Bool
 atMost limit xs k = leb (getD xs k 0) limit

@@ -1,5 +1,7 @@
 // The pixel rule: what a pixel is, how far the cut sums are from the full ones, and the words that the sums fit.
 // The definitions stand in specs/, the theorems in proofs/.
 mod above;
+mod width;
 
 pub use above::first_above;
+pub use width::width_good;

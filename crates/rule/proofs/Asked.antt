@@ -1,0 +1,49 @@
+-- Laws of the questions.
+-- Assumes nothing.
+use Prim.Native.Nat.{ℕ, _*_, _/_, _≤_, _<_}
+use native.Mathlib.Nat.{mul-le-mul}
+use native.Mathlib.Omega.{arith}
+use mathlib.Core.Path.{_≡_, refl, sym, subst}
+use mathlib.Core.Bool.{Bool, true, _&&_}
+use lib.Dec.{T, leb, ltb, eqb, leb→le, ltb→lt, eqb→eq}
+use mir.Facts.{and-yes}
+use Rattle.arith.specs.All.{all}
+use Rattle.arith.specs.First.{firstNot}
+use Rattle.arith.proofs.Bools.{true-of}
+use Rattle.arith.proofs.Firsts.{first-below, first-beyond}
+use Rattle.layout.specs.declared.Verdict.{Verdict}
+use Rattle.layout.specs.declared.Verdict.the-variants.{Refused}
+use Rattle.rule.specs.Questions.{askEach, widthGood, heightGood, placeGood}
+
+pub each-fails : (number n : ℕ) (f : ℕ → Bool) (next : Verdict) → firstNot n f < n → askEach number n f next ≡ Refused number (firstNot n f)
+unfolding askEach
+each-fails number n f next h = rw (first-below n f h)
+
+pub each-holds : (number n : ℕ) (f : ℕ → Bool) (next : Verdict) → n ≤ firstNot n f → askEach number n f next ≡ next
+unfolding askEach
+each-holds number n f next h = rw (true-of (all n f) (first-beyond n f h))
+
+pub width-bounds : {l : ℕ} → widthGood l ≡ true → (1 ≤ l) × (l ≤ 1024)
+unfolding widthGood
+width-bounds {l} e = let h = and-yes (leb 1 l) (leb l 1024) (subst T (sym e) tt) in (leb→le 1 l (h .0), leb→le l 1024 (h .1))
+
+-- a scan that questions 12 and 17 accept has H rows, and is no longer than 1,024 by 65,535
+pub record HeightBounds (l n : ℕ) : Type 0 where
+  pub whole : n ≡ l * (n / l)
+  pub least : 1 ≤ n / l
+  pub most : n / l ≤ 65535
+  pub few : n ≤ 67107840
+
+pub height-bounds : {l n : ℕ} → widthGood l ≡ true → heightGood l n ≡ true → HeightBounds l n
+unfolding heightGood
+height-bounds {l} {n} w e =
+    let a = and-yes (eqb n (l * (n / l))) (leb 1 (n / l) && leb (n / l) 65535) (subst T (sym e) tt) in
+    let b = and-yes (leb 1 (n / l)) (leb (n / l) 65535) (a .1) in
+    let h = eqb→eq n (l * (n / l)) (a .0) in
+    let m = leb→le (n / l) 65535 (b .1) in
+    let p = mul-le-mul (width-bounds w .1) m in
+    record { whole = h; least = leb→le 1 (n / l) (b .0); most = m; few = omega arith }
+
+pub place-bounds : (l n r c : ℕ) → placeGood l n r c ≡ true → (r < n / l) × (c < l)
+unfolding placeGood
+place-bounds l n r c e = let h = and-yes (ltb r (n / l)) (ltb c l) (subst T (sym e) tt) in (ltb→lt _ _ (h .0), ltb→lt _ _ (h .1))
