@@ -14,12 +14,12 @@ use Rattle.arith.proofs.Ints.{diff-pos, diff-sub, diff-minus, diff-eq, 
 module _ (p n : ℕ) (hp : p < 4611686018427387904) (hn : n < 4611686018427387904) where
   subtracted : toZ w64 p -ℤ toZ w64 n ≡ subℕ p n
   subtracted =
-    rw (toZ-pos w64 {n = p} (lt-of-lt-of-le hp (lit≤ tt)), toZ-pos w64 {n = n} (lt-of-lt-of-le hn (lit≤ tt)))
-    (diff-eq (diff-minus (diff-pos p) (diff-pos n)) (diff-sub p n) (omega arith))
+      rw (toZ-pos w64 {n = p} (lt-of-lt-of-le hp (lit≤ tt)), toZ-pos w64 {n = n} (lt-of-lt-of-le hn (lit≤ tt)))
+      (diff-eq (diff-minus (diff-pos p) (diff-pos n)) (diff-sub p n) (omega arith))
 
   pub sub-fits : SFits w64 (toZ w64 p -ℤ toZ w64 n)
   sub-fits =
-    rw subtracted (record { sfits = diff-size (2 ^ 63) (diff-sub p n) (lt-of-lt-of-le hp (lit≤ tt)) (omega arith) })
+      rw subtracted (record { sfits = diff-size (2 ^ 63) (diff-sub p n) (lt-of-lt-of-le hp (lit≤ tt)) (omega arith) })
 
   pub sub-value : toZ w64 (ofZ w64 (toZ w64 p -ℤ toZ w64 n)) ≡ subℕ p n
   sub-value = toZ-ofZ sub-fits ∙ subtracted

@@ -1,1 +1,3 @@
 pub mod Call
+pub mod Demand
+pub mod Strips

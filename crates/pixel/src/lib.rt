@@ -1,6 +1,7 @@
 // The one-pixel call: the pixel at a place of a scan that is lent whole, worked out from the covered samples.
 ghost use mathlib.Core.Path.{_≡_};
 ghost use Rattle.pixel.specs.Call.{pixelAnswer};
+
 mod ask;
 mod sums;
 mod value;

@@ -63,8 +63,8 @@ rect-accuracy t x d r c =
 pub weighted :
     (t : Table) (f : ℕ → ℕ)
     → Diff (sumℤ (t .count) (λ k. rect t k .weight *ℤ pos (f k)))
-      (sum (t .count) (λ k. posPart (rect t k .weight) * f k))
-      (sum (t .count) (λ k. negPart (rect t k .weight) * f k))
+    (sum (t .count) (λ k. posPart (rect t k .weight) * f k))
+    (sum (t .count) (λ k. negPart (rect t k .weight) * f k))
 weighted t f = diff-sum (t .count) (λ k l. diff-scale (f k) (diff-parts (rect t k .weight)))
 
 -- full sums by cut sums and what was dropped, under any weights
@@ -77,8 +77,8 @@ parted n part f s k e =
 -- A3: full value less cut value is what was dropped, each times its weight
 value-dropped : (t : Table) (x : Scan) (r c : ℤ)
     → Diff (fullValue t x r c -ℤ cutValue t x r c)
-      (sum (t .count) (λ k. posPart (rect t k .weight) * dropped t x (rect t k) r c))
-      (sum (t .count) (λ k. negPart (rect t k .weight) * dropped t x (rect t k) r c))
+    (sum (t .count) (λ k. posPart (rect t k .weight) * dropped t x (rect t k) r c))
+    (sum (t .count) (λ k. negPart (rect t k .weight) * dropped t x (rect t k) r c))
 unfolding fullValue cutValue
 value-dropped t x r c =
     let f : ℕ → ℕ = λ k. fullSum x (rect t k) r c in

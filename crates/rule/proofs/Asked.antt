@@ -1,19 +1,24 @@
 -- Laws of the questions.
 -- Assumes nothing.
-use Prim.Native.Nat.{ℕ, _*_, _/_, _≤_, _<_}
+use Prim.Native.Nat.{ℕ, _+_, _-_, _*_, _/_, _^_, _≤_, _<_, zero-le}
 use native.Mathlib.Nat.{mul-le-mul}
 use native.Mathlib.Omega.{arith}
 use mathlib.Core.Path.{_≡_, refl, sym, subst}
-use mathlib.Core.Bool.{Bool, true, _&&_}
-use lib.Dec.{T, leb, ltb, eqb, leb→le, ltb→lt, eqb→eq}
+use mathlib.Core.Bool.{Bool, true, false, not, cond, _&&_}
+use mathlib.Core.List.{List}
+use lib.ListN.{length, getD, List·getD-eq-default}
+use lib.IntN.{ℤ, pos, negsuc}
+use lib.Dec.{T, leb, ltb, eqb, leb→le, ltb→lt, nltb→le, eqb→eq}
 use mir.Facts.{and-yes}
 use Rattle.arith.specs.All.{all}
 use Rattle.arith.specs.First.{firstNot}
+use Rattle.arith.proofs.Alls.{all-at}
 use Rattle.arith.proofs.Bools.{true-of}
 use Rattle.arith.proofs.Firsts.{first-below, first-beyond}
 use Rattle.layout.specs.declared.Verdict.{Verdict}
-use Rattle.layout.specs.declared.Verdict.the-variants.{Refused}
-use Rattle.rule.specs.Questions.{askEach, widthGood, heightGood, placeGood}
+use Rattle.layout.specs.declared.Verdict.the-variants.{Accepted, Refused}
+use Rattle.rule.specs.Questions.{askEach, widthGood, heightGood, placeGood, atMost}
+use Rattle.rule.specs.Sums.{HasBits, sampleAt}
 
 pub each-fails : (number n : ℕ) (f : ℕ → Bool) (next : Verdict) → firstNot n f < n → askEach number n f next ≡ Refused number (firstNot n f)
 unfolding askEach
@@ -47,3 +52,27 @@ height-bounds {l} {n} w e =
 pub place-bounds : (l n r c : ℕ) → placeGood l n r c ≡ true → (r < n / l) × (c < l)
 unfolding placeGood
 place-bounds l n r c e = let h = and-yes (ltb r (n / l)) (ltb c l) (subst T (sym e) tt) in (ltb→lt _ _ (h .0), ltb→lt _ _ (h .1))
+
+-- acceptance: each was answered yes, and so were the questions after
+pub each-accepted : (number n : ℕ) (f : ℕ → Bool) (next : Verdict) → askEach number n f next ≡ Accepted → T (all n f) × (next ≡ Accepted)
+unfolding askEach
+each-accepted number n f next e = go (all n f) e
+  where
+    go : (b : Bool) → cond b next (Refused number (firstNot n f)) ≡ Accepted → T b × (next ≡ Accepted)
+    go true e = (tt, e)
+    go false e = absurd (let z : _≡_ {A = ℕ} 0 1 = cc in omega arith)
+
+-- a scan that question 18 accepts has samples of b bits
+pub has-bits : (b l : ℕ) (xs : List ℕ) → T (all (length xs) (atMost (2 ^ b - 1) xs)) → HasBits b (sampleAt l xs)
+unfolding sampleAt
+has-bits b l xs h (pos i) (pos j) = within (ltb j l)
+  where
+    at : (k : ℕ) (c : Bool) → (T c → k < length xs) → (T (not c) → length xs ≤ k) → getD xs k 0 ≤ 2 ^ b - 1
+    at k true f g = leb→le (getD xs k 0) (2 ^ b - 1) (all-at (length xs) (atMost (2 ^ b - 1) xs) h k (f tt))
+    at k false f g = rw (List·getD-eq-default xs 0 {n = k} (g tt)) zero-le
+
+    within : (c : Bool) → cond c (getD xs (i * l + j) 0) 0 ≤ 2 ^ b - 1
+    within true = at (i * l + j) (ltb (i * l + j) (length xs)) (ltb→lt (i * l + j) (length xs)) (nltb→le (i * l + j) (length xs))
+    within false = zero-le
+has-bits b l xs h (pos i) (negsuc j) = zero-le
+has-bits b l xs h (negsuc i) j = zero-le

@@ -45,8 +45,8 @@ pub pixel-same :
 unfolding pixelOf cutValue scaledSum cutSum windowSum
 pixel-same t x y r c h =
     ap (λ v. floorDiv v (t .t)) (sumℤ-cong (t .count) (λ k l.
-      ap (λ s. rect t k .weight *ℤ pos (s / 2 ^ t .q3 * 2 ^ (t .q1 + t .q2 + t .q3)))
-      (sum-cong (colsOf (rect t k)) (λ j m. ap (λ s. s / 2 ^ t .q2) (h k l _)))))
+    ap (λ s. rect t k .weight *ℤ pos (s / 2 ^ t .q3 * 2 ^ (t .q1 + t .q2 + t .q3)))
+    (sum-cong (colsOf (rect t k)) (λ j m. ap (λ s. s / 2 ^ t .q2) (h k l _)))))
 
 -- P3: a pixel of row r depends on the rows up to r + D only
 pub pixel-depends :

@@ -37,7 +37,7 @@ pub full-most : (b : ℕ) {x : Scan} → HasBits b x → (d : Rect) (r c : ℤ) 
 unfolding fullSum
 full-most b {x} h d r c =
     let s = sum-bound (colsOf d) (rowsOf d * (2 ^ b - 1)) {f = λ j. sum (rowsOf d) (λ i. x (covered r (d .trailrow) i) (covered c (d .trailcol) j))}
-      (λ j l. sum-bound (rowsOf d) (2 ^ b - 1) (λ i m. h _ _)) in
+    (λ j l. sum-bound (rowsOf d) (2 ^ b - 1) (λ i m. h _ _)) in
     omega arith
 
 -- a cut sum scaled back is at most the full sum
@@ -92,9 +92,9 @@ window-fits t a {x} h k l r c =
   where
     narrow : (n q s : ℕ) → 2 ^ q * s < 2 ^ n → s < 2 ^ (n - q)
     narrow n q s e =
-      let m = pow-mono {i = n} {j = n - q + q} (omega arith) in
-      let f : s * 2 ^ q < 2 ^ (n - q + q) = omega arith in
-      subst (λ y. y < 2 ^ (n - q)) (shl-shr s q) (shr-lt (n - q) q f)
+        let m = pow-mono {i = n} {j = n - q + q} (omega arith) in
+        let f : s * 2 ^ q < 2 ^ (n - q + q) = omega arith in
+        subst (λ y. y < 2 ^ (n - q)) (shl-shr s q) (shr-lt (n - q) q f)
 
 -- ---- the pixel
 
@@ -117,9 +117,9 @@ under-extreme :
 under-extreme part t {x} h r c =
     subst (λ s. sum (t .count) (λ k. part (rect t k .weight) * scaledSum t x (rect t k) r c) ≤ s) (sum-scale (t .count) (2 ^ t .b - 1) (terms part t))
     (sum-mono (t .count) (λ k l.
-      let f = le-trans (scaled-le-full t x (rect t k) r c) (full-most (t .b) h (rect t k) r c) in
-      let m = mul-le-mul-left (part (rect t k .weight)) f in
-      omega arith))
+    let f = le-trans (scaled-le-full t x (rect t k) r c) (full-most (t .b) h (rect t k) r c) in
+    let m = mul-le-mul-left (part (rect t k .weight)) f in
+    omega arith))
 
 -- P2: the pixel fits the pixel word
 pub pixel-fits :
@@ -129,6 +129,6 @@ pixel-fits t a {x} h r c =
     let g = granted t a in
     let v = and-yes (ltb ((2 ^ t .b - 1) * sum (t .count) (terms posPart t) / 2 ^ t .t) (2 ^ (t .w - 1))) _ (subst T (value-slots t) (g .value)) in
     let low : (2 ^ t .b - 1) * sum (t .count) (terms negPart t) ≤ 2 ^ (t .w - 1) * 2 ^ t .t =
-      subst (λ n. (2 ^ t .b - 1) * sum (t .count) (terms negPart t) ≤ n) (pow-add 2 (t .w - 1) (t .t)) (leb→le _ _ (v .1)) in
+    subst (λ n. (2 ^ t .b - 1) * sum (t .count) (terms negPart t) ≤ n) (pow-add 2 (t .w - 1) (t .t)) (leb→le _ _ (v .1)) in
     floor-fits (t .w) (t .t) (cutValue t x r c) (weighted t (λ k. scaledSum t x (rect t k) r c))
     (under-extreme posPart t h r c) (under-extreme negPart t h r c) (ltb→lt _ _ (v .0)) low

@@ -17,7 +17,7 @@ use Rattle.rule.specs.Pixels.{fullValue, cutValue}
 -- every bit dropped for a rectangle is zero: of its M·N samples by 2^q1, of its N column sums by 2^q2, of its window sum by 2^q3
 pub record NothingDropped (t : Table) (x : Scan) (d : Rect) (r c : ℤ) : Type 0 where
   pub samples :
-    (i j : ℕ) → i < rowsOf d → j < colsOf d → x (covered r (d .trailrow) i) (covered c (d .trailcol) j) % 2 ^ t .q1 ≡ 0
+      (i j : ℕ) → i < rowsOf d → j < colsOf d → x (covered r (d .trailrow) i) (covered c (d .trailcol) j) % 2 ^ t .q1 ≡ 0
   pub columns : (j : ℕ) → j < colsOf d → columnSum t x d r (covered c (d .trailcol) j) % 2 ^ t .q2 ≡ 0
   pub window : windowSum t x d r c % 2 ^ t .q3 ≡ 0
 

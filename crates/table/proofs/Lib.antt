@@ -6,4 +6,3 @@ pub mod Encoded
 pub mod Complete
 pub mod Numbers
 pub mod Theorems
-pub mod Strips

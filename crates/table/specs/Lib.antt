@@ -1,3 +1,2 @@
 pub mod Format
 pub mod Writing
-pub mod Strips

@@ -39,8 +39,8 @@ unfolding windowSum columnSum
 window t d xs width r c top left m n em en dr dc =
     ap (λ n. sum n (column xs width (r + 1 + top) m (t .q1) (t .q2) (c + 1 + left))) en
     ∙ sum-cong (colsOf d) (λ j l. ap (λ s. s / 2 ^ t .q2)
-      (ap (λ m. sum m (λ i. sampleAt width xs (subℕ (r + 1 + top + i) 128) (subℕ (c + 1 + left + j) 128) / 2 ^ t .q1)) em
-      ∙ sum-cong (rowsOf d) (λ i h. rw (covered-frame r i dr, covered-frame c j dc))))
+    (ap (λ m. sum m (λ i. sampleAt width xs (subℕ (r + 1 + top + i) 128) (subℕ (c + 1 + left + j) 128) / 2 ^ t .q1)) em
+    ∙ sum-cong (rowsOf d) (λ i h. rw (covered-frame r i dr, covered-frame c j dc))))
 
 abbrev Inv-loop : tie.InvT-loop
 Inv-loop t width samples r c top left m n s₀ j₀ s j = (j ≤ n) × (s ≡ sum j (column samples width top m (t .q1) (t .q2) left)) × (s ≤ j * 16711425)
@@ -148,7 +148,7 @@ returns c = let s = c .before in
     let e : s .loop .j ≡ s .before .columns .result = omega arith in
     h .1 ∙ ap (λ n. sum n (column (a .samples .now) (a .width) (a .r + 1 + b .biased-byte .result) (m .rows .result) (a .t .q1) (a .t .q2) (a .c + 1 + m .before .biased-byte2 .result))) e
     ∙ window (a .t) d (a .samples .now) (a .width) (a .r) (a .c) _ _ _ _ (m .rows .ensures .0) (s .before .columns .ensures .0)
-      (rw (toZ-ofZ fr) at (b .biased-byte .ensures .0)) (rw (toZ-ofZ fc) at (m .before .biased-byte2 .ensures .0))
+    (rw (toZ-ofZ fr) at (b .biased-byte .ensures .0)) (rw (toZ-ofZ fc) at (m .before .biased-byte2 .ensures .0))
 
 pub window-sum-spec : {M : Type 1} → statement M
 window-sum-spec =

@@ -137,11 +137,13 @@ loop-again c = let p = c .before .before in
     let e = rw (toZ-ofZ f) at (p .sign-parts .ensures .0) in
     let i = l .loop .inv in
     let x = product _ _ (p .sign-parts .ensures .1 .0) (s .scaled-sum .ensures .1) in
-    let y = product _ _ (p .sign-parts .ensures .1 .1) (s .scaled-sum .ensures .1) in
-    (search needs,
-     rw (add-one, sum-suc) (ap₂ _+_ (i .1) (ap₂ _*_ (e .0) (s .scaled-sum .ensures .0))),
-     rw (add-one, sum-suc) (ap₂ _+_ (i .2) (ap₂ _*_ (e .1) (s .scaled-sum .ensures .0))),
-     search (needs, x), search (needs, y))
+    let y = product _ _ (p .sign-parts .ensures .1 .1) (s .scaled-sum .ensures .1) in (
+      search needs,
+      rw (add-one, sum-suc) (ap₂ _+_ (i .1) (ap₂ _*_ (e .0) (s .scaled-sum .ensures .0))),
+      rw (add-one, sum-suc) (ap₂ _+_ (i .2) (ap₂ _*_ (e .1) (s .scaled-sum .ensures .0))),
+      search (needs, x),
+      search (needs, y),
+    )
 
 -- src/value.rt:60:5
 settled-requires : tie.Need-settled-requires Inv-loop μ-loop
@@ -150,9 +152,10 @@ settled-requires c κs = let l = c .before in
     let s = l .before .before in
     let a = s .args in
     let g = granted (a .t1) (s .pre .0 .0) in
-    let n = g .few in
-    ((search (needs, n), search (needs, n)),
-     rw (value-is c) (fits-widen (a .t1 .w) 32 _ (g .word-most) (pixel-fits (a .t1) (s .pre .0 .0) {x = sampleAt (a .width) (a .samples .now)} (s .pre .0 .1) (pos (a .r)) (pos (a .c)))))
+    let n = g .few in (
+      (search (needs, n), search (needs, n)),
+      rw (value-is c) (fits-widen (a .t1 .w) 32 _ (g .word-most) (pixel-fits (a .t1) (s .pre .0 .0) {x = sampleAt (a .width) (a .samples .now)} (s .pre .0 .1) (pos (a .r)) (pos (a .c)))),
+    )
 
 -- src/value.rt:43:1
 returns : tie.Need-returns Inv-loop μ-loop
