@@ -1,7 +1,9 @@
 // The papers' strips that carry no mark, executed: one line each, what was tried and what came out.
 mod files;
 
+use layout::Table;
 use libc::STDOUT_FILENO;
+use pixel::Found;
 
 fn say(what: &[u8], number: u32) {
     io::write_all(STDOUT_FILENO, what);
@@ -29,7 +31,52 @@ fn counts() {
     tried(b"a seventeenth field: ", &many);
 }
 
+fn found(what: &[u8], answer: Found) {
+    match answer {
+        Found::Pixel(_) => accepted(what),
+        Found::Refused(number, place) => refused(what, number, place),
+    }
+    io::write_all(STDOUT_FILENO, b"\n");
+}
+
+fn accepted(what: &[u8]) {
+    io::write_all(STDOUT_FILENO, what);
+    io::write_all(STDOUT_FILENO, b"accepted");
+}
+
+fn refused(what: &[u8], number: u32, place: u32) {
+    io::write_all(STDOUT_FILENO, what);
+    io::write_all(STDOUT_FILENO, b"refused ");
+    io::print_decimal(STDOUT_FILENO, number as u64);
+    io::write_all(STDOUT_FILENO, b" ");
+    io::print_decimal(STDOUT_FILENO, place as u64);
+}
+
+fn widths(t: Table) {
+    let row = [0u16; 1025];
+    found(b"pixel, L 0: ", pixel::pixel(t, 0, &row, 0, 0));
+    found(
+        b"pixel, L 1024: ",
+        pixel::pixel(t, 1024, &row[..1024], 0, 1023),
+    );
+    found(b"pixel, L 1025: ", pixel::pixel(t, 1025, &row, 0, 0));
+}
+
+fn samples(t: Table) {
+    found(
+        b"pixel, sample 255: ",
+        pixel::pixel(t, 6, &[0, 0, 0, 0, 255, 0], 0, 0),
+    );
+    found(
+        b"pixel, sample 256 in column 4: ",
+        pixel::pixel(t, 6, &[0, 0, 0, 0, 256, 0], 0, 0),
+    );
+}
+
 fn main() {
     edges();
     counts();
+    let single = table::load(&files::single(8, 0, 255));
+    widths(single.table);
+    samples(single.table);
 }
