@@ -4,6 +4,7 @@ pub mod Maxima
 pub mod Alls
 pub mod Firsts
 pub mod Tabs
+pub mod Passes
 pub mod Cut
 pub mod Ints
 pub mod Differences

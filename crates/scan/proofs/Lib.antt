@@ -1,0 +1,6 @@
+pub mod Answered
+pub mod Moves
+pub mod Lines
+pub mod Delays
+pub mod Carries
+pub mod States

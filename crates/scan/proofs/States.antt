@@ -1,0 +1,68 @@
+-- What the answers to questions 13 and 14 tell.
+-- Assumes nothing.
+use Prim.Native.Nat.{ℕ, _*_, _≤_}
+use mathlib.Core.Path.{_≡_, sym, subst}
+use mathlib.Core.Bool.{Bool, true, cond, _&&_}
+use lib.Dec.{T, leb, eqb, leb→le}
+use mir.Facts.{and-yes}
+use Rattle.arith.proofs.Bools.{true-of}
+use Rattle.layout.specs.Measure.{delayOf}
+use Rattle.layout.specs.declared.Table.{Table}
+use Rattle.layout.specs.declared.Verdict.the-variants.{Accepted}
+use Rattle.limits.specs.Limits.{acceptable}
+use Rattle.limits.proofs.Asked.{ask-accepted}
+use Rattle.rule.specs.Questions.{widthGood}
+use Rattle.scan.specs.declared.Scan.{Scan}
+use Rattle.scan.specs.Calls.{agrees, storesGood, startSays}
+
+-- a state whose numbers agree
+pub record Agreed (s : Scan) : Type 0 where
+  pub table : acceptable (s .table) ≡ true
+  pub width : widthGood (s .width) ≡ true
+  pub rows : s .rows ≤ 65535
+  pub steps : s .steps ≤ delayOf (s .table)
+  pub unstepped : T (cond (s .closed) true (eqb (s .steps) 0))
+
+pub agreed : (s : Scan) → agrees s ≡ true → Agreed s
+unfolding agrees
+agreed s e =
+    let a = and-yes (acceptable (s .table)) _ (subst T (sym e) tt) in
+    let b = and-yes (widthGood (s .width)) _ (a .1) in
+    let c = and-yes (leb (s .rows) 65535) _ (b .1) in
+    let d = and-yes (leb (s .steps) (delayOf (s .table))) _ (c .1) in
+    record {
+      table = true-of _ (a .0);
+      width = true-of _ (b .0);
+      rows = leb→le (s .rows) 65535 (c .0);
+      steps = leb→le (s .steps) (delayOf (s .table)) (d .0);
+      unstepped = d .1;
+    }
+
+-- stores that are long enough
+pub stores-bounds : (l count samples sums : ℕ) → storesGood l count samples sums ≡ true → (32 * l ≤ samples) × (count * l ≤ sums)
+unfolding storesGood
+stores-bounds l count samples sums e =
+    let h = and-yes (leb (32 * l) samples) (leb (count * l) sums) (subst T (sym e) tt) in
+    (leb→le (32 * l) samples (h .0), leb→le (count * l) sums (h .1))
+
+pub lent-bounds :
+    (l count samples sums out : ℕ) → (storesGood l count samples sums && leb l out) ≡ true
+    → (32 * l ≤ samples) × (count * l ≤ sums) × (l ≤ out)
+lent-bounds l count samples sums out e =
+    let h = and-yes (storesGood l count samples sums) (leb l out) (subst T (sym e) tt) in
+    let b = stores-bounds l count samples sums (true-of _ (h .0)) in
+    (b .0, b .1, leb→le l out (h .1))
+
+-- an accepted start
+pub record Begins (t : Table) (l samples sums : ℕ) : Type 0 where
+  pub table : acceptable t ≡ true
+  pub width : widthGood l ≡ true
+  pub stores : storesGood l (t .count) samples sums ≡ true
+
+pub begins : (t : Table) (l samples sums : ℕ) → startSays t l samples sums ≡ Accepted → Begins t l samples sums
+unfolding startSays
+begins t l samples sums e =
+    let a = ask-accepted 11 (acceptable t) _ e in
+    let b = ask-accepted 12 (widthGood l) _ (a .1) in
+    let c = ask-accepted 13 (storesGood l (t .count) samples sums) _ (b .1) in
+    record { table = a .0; width = b .0; stores = c .0 }

@@ -1,0 +1,164 @@
+use Rattle.scan.proofs.States.{Agreed, agreed}
+use Rattle.scan.specs.Calls.{agrees, storesGood, rowAsked}
+use Rattle.rule.proofs.Asked.{width-bounds, each-fails, each-holds}
+use Rattle.rule.specs.Questions.{atMost}
+use Rattle.limits.proofs.Granted.{Granted, granted}
+use Rattle.layout.specs.declared.Verdict.the-variants.{Accepted, Refused}
+use native.Mathlib.Omega.{arith}
+use borrow.Author.Tests.{lt-ltb, le-ltb, eq-eqb, ne-eqb}
+use lib.Pow.{pow-pos, pow-mono}
+use lib.ListN.{length}
+use lib.Dec.{leb, ltb, eqb}
+use Prim.Native.Nat.{ℕ, _-_, _^_, _≤_, _<_}
+use mathlib.Core.Bool.{true, false, _&&_}
+use mathlib.Core.Path.{_≡_, refl, sym, ap, _∙_}
+use Rattle.scan.proofs.Answered.{yes, no}
+use borrow.Author.Needs.{needs}
+use Rattle.scan.proofs.rows.row_asked.Statement.{statement}
+use Rattle.scan.proofs.rows.row_asked.Tie as tie
+use Rattle.scan.proofs.rows.row_asked.Reads as reads
+use Rattle.scan.proofs.rows.row_asked.Lts as lts
+use Rattle.arith.proofs.power.Reads as power-reads
+use Rattle.rule.proofs.first_above.Reads as first-above-reads
+use Rattle.scan.proofs.state.lent_good.Reads as lent-good-reads
+use Rattle.scan.proofs.state.state_good.Reads as state-good-reads
+
+-- the start of a call whose questions up to 17 are answered yes
+abbrev start : tie.Else4 → tie.Start
+start c = c .before .before .before .before .before .before .before
+
+record Yes (c : tie.Else4) : Type 0 where
+  state : agrees (start c .args .s) ≡ true
+  opened : start c .args .s .closed ≡ false
+  few : ltb (start c .args .s .rows) 65535 ≡ true
+  long : eqb (length (start c .args .row .now)) (start c .args .s .width) ≡ true
+
+answered : (c : tie.Else4) → Yes c
+answered c =
+    let x = c .before in
+    let w = x .before .before in
+    let u = w .before in
+    record {
+      state = yes (u .before .state-good .ensures) (u .if1 .left);
+      opened = w .if2 .left;
+      few = lt-ltb _ _ (x .if3 .left);
+      long = eq-eqb _ _ (c .if4 .left);
+    }
+
+-- question 13 too
+lent : (c : tie.Else5) → (storesGood (start (c .before .before .before) .args .s .width) (start (c .before .before .before) .args .s .table .count) (start (c .before .before .before) .args .samples) (start (c .before .before .before) .args .sums) && leb (start (c .before .before .before) .args .s .width) (start (c .before .before .before) .args .out)) ≡ true
+lent c = yes (c .before .lent-good .ensures) (c .if5 .left)
+
+power-is : (c : tie.After-power) → c .power .result ≡ 2 ^ start (c .before .before .before .before) .args .s .table .b
+power-is c =
+    let b = granted _ (agreed _ (answered (c .before .before .before .before) .state) .table) .bits-most in
+    c .power .ensures .0 (omega arith)
+
+-- src/rows.rt:63:9
+state-good-requires : tie.Need-state-good-requires
+state-good-requires c κs = search needs
+
+-- src/rows.rt:64:9
+returns : tie.Need-returns
+unfolding rowAsked
+returns c = rw (no (c .before .state-good .ensures) (c .if1 .taken)) refl
+
+-- src/rows.rt:67:9
+returns-2 : tie.Need-returns-2
+unfolding rowAsked
+returns-2 c = let u = c .before in
+    rw (yes (u .before .state-good .ensures) (u .if1 .left), c .if2 .taken) refl
+
+-- src/rows.rt:70:9
+returns-3 : tie.Need-returns-3
+unfolding rowAsked
+returns-3 c = let w = c .before .before in
+    let u = w .before in
+    rw (yes (u .before .state-good .ensures) (u .if1 .left), w .if2 .left, le-ltb _ _ (c .if3 .taken)) refl
+
+-- src/rows.rt:74:9
+returns-4 : tie.Need-returns-4
+unfolding rowAsked
+returns-4 c = let x = c .before in
+    let w = x .before .before in
+    let u = w .before in
+    rw (yes (u .before .state-good .ensures) (u .if1 .left), w .if2 .left, lt-ltb _ _ (x .if3 .left), ne-eqb _ _ (c .if4 .taken)) refl
+
+-- src/rows.rt:77:9
+lent-good-requires : tie.Need-lent-good-requires
+lent-good-requires c κs = let a = agreed _ (answered (c .before) .state) in
+    (width-bounds (a .width) .1, granted _ (a .table) .few)
+
+-- src/rows.rt:78:9
+returns-5 : tie.Need-returns-5
+unfolding rowAsked
+returns-5 c = let y = answered (c .before .before .before) in
+    rw (y .state, y .opened, y .few, y .long, no (c .before .lent-good .ensures) (c .if5 .taken)) refl
+
+-- src/rows.rt:80:35
+power-requires : tie.Need-power-requires
+power-requires c κs = search needs
+
+-- src/rows.rt:80:35
+sub-first-above : tie.Need-sub-first-above
+sub-first-above c = let p = pow-pos (start (c .before .before .before .before) .args .s .table .b) in
+    let e = power-is c in omega arith
+
+-- src/rows.rt:80:34
+cast-first-above : tie.Need-cast-first-above
+cast-first-above c = let e = power-is c in
+    let b = granted _ (agreed _ (answered (c .before .before .before .before) .state) .table) .bits-most in
+    let p = pow-mono b in search (needs, e, p)
+
+-- src/rows.rt:80:9
+first-above-requires : tie.Need-first-above-requires
+first-above-requires c κs = search needs
+
+-- src/rows.rt:82:37
+cast-t15 : tie.Need-cast-t15
+cast-t15 c = let s = c .before .before .before .before .before .before in
+    let a = agreed _ (answered s .state) in
+    let w = width-bounds (a .width) .1 in
+    let e = s .if4 .left in
+    search (needs, w, e)
+
+-- src/rows.rt:82:9
+returns-6 : tie.Need-returns-6
+unfolding rowAsked
+returns-6 c = let p = c .before .before in
+    let s = p .before .before .before .before in
+    let y = answered s in
+    let a = start s .args in
+    let e = rw (power-is p) at (c .before .first-above .ensures) in
+    rw (y .state, y .opened, y .few, y .long, lent (p .before), each-fails 18 (length (a .row .now)) (atMost (2 ^ a .s .table .b - 1) (a .row .now)) Accepted (rw (← e) (c .if6 .taken)))
+    (ap (Refused 18) e)
+
+-- src/rows.rt:60:1
+returns-7 : tie.Need-returns-7
+unfolding rowAsked
+returns-7 c = let p = c .before .before in
+    let s = p .before .before .before .before in
+    let y = answered s in
+    let a = start s .args in
+    let e = rw (power-is p) at (c .before .first-above .ensures) in
+    rw (y .state, y .opened, y .few, y .long, lent (p .before), each-holds 18 (length (a .row .now)) (atMost (2 ^ a .s .table .b - 1) (a .row .now)) Accepted (rw (← e) (c .if6 .left)))
+    refl
+
+pub row-asked-spec : {M : Type 1} → statement M
+row-asked-spec =
+    tie.close
+    (tie.spec
+    state-good-requires
+    returns
+    returns-2
+    returns-3
+    returns-4
+    lent-good-requires
+    returns-5
+    power-requires
+    sub-first-above
+    cast-first-above
+    first-above-requires
+    cast-t15
+    returns-6
+    returns-7)

@@ -1,0 +1,31 @@
+use Rattle.scan.specs.Calls.{closeSays}
+use mathlib.Core.Path.{_≡_, refl, sym, ap, _∙_}
+use Rattle.scan.proofs.Answered.{yes, no}
+use borrow.Author.Needs.{needs}
+use Rattle.scan.proofs.starts.close.Statement.{statement}
+use Rattle.scan.proofs.starts.close.Tie as tie
+use Rattle.scan.proofs.starts.close.Reads as reads
+use Rattle.scan.proofs.starts.close.Lts as lts
+use Rattle.scan.proofs.state.state_good.Reads as state-good-reads
+
+-- src/starts.rt:89:9
+state-good-requires : tie.Need-state-good-requires
+state-good-requires c κs = search needs
+
+-- src/starts.rt:90:9
+returns : tie.Need-returns
+unfolding closeSays
+returns c = let e = no (c .before .state-good .ensures) (c .if1 .taken) in (rw e refl, rw e refl)
+
+-- src/starts.rt:96:9
+returns-2 : tie.Need-returns-2
+unfolding closeSays
+returns-2 c = let e = yes (c .before .before .state-good .ensures) (c .before .if1 .left) in (rw (e, c .if2 .taken) refl, rw (e, c .if2 .taken) refl)
+
+-- src/starts.rt:85:1
+returns-3 : tie.Need-returns-3
+unfolding closeSays
+returns-3 c = let e = yes (c .before .before .state-good .ensures) (c .before .if1 .left) in (rw (e, c .if2 .left) refl, rw (e, c .if2 .left) refl)
+
+pub close-spec : {M : Type 1} → statement M
+close-spec = tie.close (tie.spec state-good-requires returns returns-2 returns-3)

@@ -1,0 +1,217 @@
+// The arrival of a row, or of a closing row of zeros: first everything is read and asked, then written.
+ghost use mathlib.Core.Path.{_≡_};
+ghost use mathlib.Core.Bool.{true};
+ghost use mathlib.Core.List.{[], _++_};
+ghost use Prim.Native.Nat.{ℕ, _+_, _*_, _/_, _^_, _≤_, _<_};
+ghost use lib.Dec.{T};
+ghost use lib.IntN.{subℕ};
+ghost use lib.ListN.{length, getD, drop};
+ghost use borrow.Rule.Slice.PartMut.{putMid};
+ghost use Rattle.arith.specs.All.{all};
+ghost use Rattle.arith.specs.First.{firstNot};
+ghost use Rattle.arith.specs.Tab.{tab};
+ghost use Rattle.arith.specs.Floor.{floorDiv};
+ghost use Rattle.arith.specs.Twos.{fitsSigned};
+ghost use Rattle.layout.specs.Contents.{rect};
+ghost use Rattle.layout.specs.Measure.{delayOf};
+ghost use Rattle.limits.specs.Limits.{acceptable};
+ghost use Rattle.scan.specs.Arrivals.{leaving, entering, sumMost, sumGood, newSum, sumsAfter};
+ghost use Rattle.scan.specs.Passes.{arriving, weighed, Weighed, Room};
+use crate::fetch::fetch;
+use crate::sums::carry;
+use crate::sums::renew;
+use crate::window::add_window;
+use arith::biased_byte;
+use arith::floor_shift;
+use arith::power;
+use arith::sign_parts;
+use layout::Table;
+use layout::columns;
+use layout::rows;
+
+// The leaving and the entering cut samples of rectangle k into the first places of two lines.
+fn edges(
+    off: &mut [u16],
+    on: &mut [u16],
+    t: Table,
+    k: usize,
+    width: usize,
+    arrival: usize,
+    delay: usize,
+    samples: &[u16],
+    row: &[u16],
+)
+    requires { ⌜ (t .q1 ≤ 11) × (delay ≡ delayOf t) × (delay ≤ 15) × (k < 16) ⌝ }
+    requires { ⌜ (width ≤ length (now off)) × (width ≤ length (now on)) × (width ≤ length (now row)) × (32 * width ≤ length (now samples)) ⌝ }
+    requires { ⌜ (width ≤ 1024) × (arrival ≤ 65550) ⌝ }
+    ensures { λ _. ⌜ now (off .exit) ≡ tab width (leaving (arriving t width arrival (now (row .entry)) (now (samples .entry)) []) k) ++ drop width (now (off .entry)) ⌝ }
+    ensures { λ _. ⌜ now (on .exit) ≡ tab width (entering (arriving t width arrival (now (row .entry)) (now (samples .entry)) []) k) ++ drop width (now (on .entry)) ⌝ }
+{
+    let d = t.rects[k];
+    let trail = biased_byte(d.trailrow) as usize;
+    let lead = biased_byte(d.leadrow) as usize;
+    fetch(off, samples, row, width, arrival, delay, trail, t.q1);
+    fetch(on, samples, row, width, arrival, delay, lead, t.q1);
+}
+
+// The most that a column sum of rectangle k can be.
+fn sum_most(t: Table, k: usize) -> u32
+    requires { ⌜ (acceptable t ≡ true) × (k < t .count) ⌝ }
+    ensures { λ m. ⌜ m ≡ sumMost t (rect t k) ⌝ }
+    ensures { λ m. ⌜ m ≤ 126945 ⌝ }
+{
+    let d = t.rects[k];
+    rows(d) * (power(t.b - t.q1) as u32 - 1)
+}
+
+// One rectangle: question 19 on its column sums, and its part of the values.
+fn rectangle(
+    acc: &mut [u64],
+    t: Table,
+    k: usize,
+    width: usize,
+    arrival: usize,
+    delay: usize,
+    samples: &[u16],
+    sums: &[u32],
+    row: &[u16],
+) -> bool
+    requires { ⌜ (acceptable t ≡ true) × (delay ≡ delayOf t) × (k < t .count) ⌝ }
+    requires { ⌜ Room t width arrival (length (now row)) (length (now samples)) (length (now sums)) ⌝ }
+    requires { ⌜ Weighed (arriving t width arrival (now row) (now samples) (now sums)) k (now acc) ⌝ }
+    ensures { λ g. ⌜ g ≡ all width (sumGood (arriving t width arrival (now (row .entry)) (now (samples .entry)) (now (sums .entry))) k) ⌝ }
+    ensures { λ g. ⌜ (g ≡ true → Weighed (arriving t width arrival (now (row .entry)) (now (samples .entry)) (now (sums .entry))) (k + 1) (now (acc .exit))) ⌝ }
+{
+    let mut off = [0u16; 1024];
+    let mut on = [0u16; 1024];
+    let mut line = [0u32; 1056];
+    edges(&mut off, &mut on, t, k, width, arrival, delay, samples, row);
+    let most = sum_most(t, k);
+    let at = k * width;
+    if !renew(
+        &mut line[16..16 + width],
+        &sums[at..at + width],
+        &off,
+        &on,
+        width,
+        most,
+        t.q2,
+    ) {
+        return false;
+    }
+    weigh(acc, &line, t, k, width);
+    true
+}
+
+// Adds the part of rectangle k, whose cut column sums stand in a line from place 16 on, to the values.
+fn weigh(acc: &mut [u64], line: &[u32], t: Table, k: usize, width: usize)
+    requires { ⌜ (acceptable t ≡ true) × (k < t .count) × (width ≤ 1024) × (length (now line) ≡ 1056) × (width ≤ length (now acc)) ⌝ }
+    requires { ⌜ ((i : ℕ) → i < 16 → getD (now line) i 0 ≡ 0) ⌝ }
+    requires { ⌜ ((i : ℕ) → getD (now line) i 0 ≤ sumMost t (rect t k) / 2 ^ t .q2) ⌝ }
+    requires { ⌜ ((c : ℕ) → c < width → (137438953472 ≤ getD (now acc) c 0) × (getD (now acc) c 0 ≤ 4398046511104)) ⌝ }
+    ensures { λ _. ⌜ now (acc .exit) ≡ tab width (weighed t (rect t k) (now (line .entry)) (now (acc .entry))) ++ drop width (now (acc .entry)) ⌝ }
+{
+    let d = t.rects[k];
+    let p = sign_parts(d.weight);
+    let base = biased_byte(d.trailcol) as usize - 111;
+    let n = columns(d) as usize;
+    let q = t.q1 + t.q2 + t.q3;
+    add_window(acc, line, base, n, width, t.q3, q, p.above, p.below);
+}
+
+// The first rectangle that fails question 19, or their number; the values are then complete.
+pub fn values(
+    acc: &mut [u64],
+    t: Table,
+    width: usize,
+    arrival: usize,
+    delay: usize,
+    samples: &[u16],
+    sums: &[u32],
+    row: &[u16],
+) -> usize
+    requires { ⌜ (acceptable t ≡ true) × (delay ≡ delayOf t) ⌝ }
+    requires { ⌜ Room t width arrival (length (now row)) (length (now samples)) (length (now sums)) ⌝ }
+    requires { ⌜ Weighed (arriving t width arrival (now row) (now samples) (now sums)) 0 (now acc) ⌝ }
+    ensures { λ f. ⌜ f ≡ firstNot (t .count) (λ k. all width (sumGood (arriving t width arrival (now (row .entry)) (now (samples .entry)) (now (sums .entry))) k)) ⌝ }
+    ensures { λ f. ⌜ (t .count ≤ f → Weighed (arriving t width arrival (now (row .entry)) (now (samples .entry)) (now (sums .entry))) (t .count) (now (acc .exit))) ⌝ }
+{
+    let count = t.count;
+    let mut k = 0;
+    while k < count {
+        if !rectangle(acc, t, k, width, arrival, delay, samples, sums, row) {
+            return k;
+        }
+        k += 1;
+    }
+    k
+}
+
+// Carries the sums of rectangle k.
+fn carry_rectangle(
+    sums: &mut [u32],
+    t: Table,
+    k: usize,
+    width: usize,
+    arrival: usize,
+    delay: usize,
+    samples: &[u16],
+    row: &[u16],
+)
+    requires { ⌜ (acceptable t ≡ true) × (delay ≡ delayOf t) × (k < t .count) ⌝ }
+    requires { ⌜ Room t width arrival (length (now row)) (length (now samples)) (length (now sums)) ⌝ }
+    requires { ⌜ T (all width (sumGood (arriving t width arrival (now row) (now samples) (now sums)) k)) ⌝ }
+    ensures { λ _. ⌜ now (sums .exit) ≡ putMid (k * width) width (now (sums .entry)) (tab width (newSum (arriving t width arrival (now (row .entry)) (now (samples .entry)) (now (sums .entry))) k)) ⌝ }
+{
+    let mut off = [0u16; 1024];
+    let mut on = [0u16; 1024];
+    edges(&mut off, &mut on, t, k, width, arrival, delay, samples, row);
+    let at = k * width;
+    carry(&mut sums[at..at + width], &off, &on, width);
+}
+
+// Carries the sums of every rectangle.
+pub fn carry_all(
+    sums: &mut [u32],
+    t: Table,
+    width: usize,
+    arrival: usize,
+    delay: usize,
+    samples: &[u16],
+    row: &[u16],
+)
+    requires { ⌜ (acceptable t ≡ true) × (delay ≡ delayOf t) ⌝ }
+    requires { ⌜ Room t width arrival (length (now row)) (length (now samples)) (length (now sums)) ⌝ }
+    requires { ⌜ T (all (t .count) (λ k. all width (sumGood (arriving t width arrival (now row) (now samples) (now sums)) k))) ⌝ }
+    ensures { λ _. ⌜ now (sums .exit) ≡ sumsAfter (arriving t width arrival (now (row .entry)) (now (samples .entry)) (now (sums .entry))) ⌝ }
+{
+    let count = t.count;
+    let mut k = 0;
+    while k < count {
+        carry_rectangle(sums, t, k, width, arrival, delay, samples, row);
+        k += 1;
+    }
+}
+
+// A value above its bias of 2^41, divided by 2^shift and rounded down.
+fn settled(value: u64, shift: u8) -> i32
+    requires { ⌜ value ≤ 4398046511104 ⌝ }
+    requires { ⌜ T (fitsSigned 32 (floorDiv (subℕ value 2199023255552) shift)) ⌝ }
+    ensures { λ p. ⌜ p ≡ floorDiv (subℕ value 2199023255552) shift ⌝ }
+{
+    floor_shift(value as i64 - 2199023255552, shift) as i32
+}
+
+// The pixels into the first places of the output.
+pub fn write_row(out: &mut [i32], acc: &[u64], width: usize, shift: u8)
+    requires { ⌜ (width ≤ length (now out)) × (width ≤ length (now acc)) ⌝ }
+    requires { ⌜ ((c : ℕ) → c < width → getD (now acc) c 0 ≤ 4398046511104) ⌝ }
+    requires { ⌜ ((c : ℕ) → c < width → T (fitsSigned 32 (floorDiv (subℕ (getD (now acc) c 0) 2199023255552) shift))) ⌝ }
+    ensures { λ _. ⌜ now (out .exit) ≡ tab width (λ c. floorDiv (subℕ (getD (now (acc .entry)) c 0) 2199023255552) shift) ++ drop width (now (out .entry)) ⌝ }
+{
+    let mut c = 0;
+    while c < width {
+        out[c] = settled(acc[c], shift);
+        c += 1;
+    }
+}

@@ -1,0 +1,61 @@
+// The scan engine: a scan row by row, with the column sums carried along. The state is a value; samples, sums and the
+// filtered row stand in stores that are lent to each call. Everything is asked before anything is written.
+mod arrive;
+mod fetch;
+mod rows;
+mod starts;
+mod state;
+mod steps;
+mod sums;
+mod window;
+
+use layout::Table;
+use layout::Verdict;
+pub use rows::row;
+pub use starts::close;
+pub use starts::start;
+pub use steps::step;
+
+// A scan: its table and width, the rows that came in, the closing steps done, and whether it is closed.
+#[repr(C)]
+pub struct Scan {
+    pub table: Table,
+    pub width: usize,
+    pub rows: u32,
+    pub steps: u32,
+    pub closed: bool,
+}
+
+// What a row comes to: a filtered row with its number, none due yet, or the number and the place of the question
+// that was answered no.
+pub enum Answer {
+    Row(u32),
+    Waiting,
+    Refused(u32, u32),
+}
+
+// What a closing step comes to: the same, or that all rows are out.
+pub enum Closing {
+    Row(u32),
+    Waiting,
+    Done,
+    Refused(u32, u32),
+}
+
+// The verdict on starting or closing, and the scan.
+pub struct Started {
+    pub verdict: Verdict,
+    pub scan: Scan,
+}
+
+// The answer to a row, and the scan after it.
+pub struct Moved {
+    pub answer: Answer,
+    pub scan: Scan,
+}
+
+// The answer to a closing step, and the scan after it.
+pub struct Stepped {
+    pub answer: Closing,
+    pub scan: Scan,
+}

@@ -1,0 +1,135 @@
+// A row.
+ghost use mathlib.Core.Path.{_≡_};
+ghost use mathlib.Core.Bool.{true};
+ghost use Prim.Native.Nat.{_+_, _*_, _≤_};
+ghost use lib.ListN.{length};
+ghost use Rattle.limits.specs.Limits.{acceptable};
+ghost use Rattle.layout.specs.declared.Verdict.the-variants.{Accepted};
+ghost use Rattle.scan.specs.Arrivals.{arrivalSays, samplesAfter, sumsAfter, outputAfter};
+ghost use Rattle.scan.specs.Calls.{by, arrivalOf, rowAsked, rowSays, rowAnswer, rowIn};
+ghost use Rattle.scan.specs.Passes.{Room};
+use crate::Answer;
+use crate::Moved;
+use crate::Scan;
+use crate::arrive::carry_all;
+use crate::arrive::values;
+use crate::arrive::write_row;
+use crate::fetch::cut_row;
+use crate::state::lent_good;
+use crate::state::state_good;
+use arith::power;
+use layout::Verdict;
+use layout::delay;
+use rule::first_above;
+
+// Takes in what arrives, once all but question 19 is asked.
+pub fn arrive(
+    s: Scan,
+    row: &[u16],
+    samples: &mut [u16],
+    sums: &mut [u32],
+    out: &mut [i32],
+) -> Verdict
+    requires { ⌜ (acceptable (s .table) ≡ true) × (s .rows ≤ 65535) × (s .steps ≤ 15) ⌝ }
+    requires { ⌜ Room (s .table) (s .width) (s .rows + s .steps) (length (now row)) (length (now samples)) (length (now sums)) ⌝ }
+    requires { ⌜ (length (now row) ≡ s .width) × (s .width ≤ length (now out)) ⌝ }
+    ensures { λ v. ⌜ v ≡ arrivalSays (arrivalOf s (now (row .entry)) (now (samples .entry)) (now (sums .entry))) ⌝ }
+    ensures { λ _. ⌜ now (samples .exit) ≡ by (arrivalSays (arrivalOf s (now (row .entry)) (now (samples .entry)) (now (sums .entry)))) (samplesAfter (arrivalOf s (now (row .entry)) (now (samples .entry)) (now (sums .entry)))) (now (samples .entry)) ⌝ }
+    ensures { λ _. ⌜ now (sums .exit) ≡ by (arrivalSays (arrivalOf s (now (row .entry)) (now (samples .entry)) (now (sums .entry)))) (sumsAfter (arrivalOf s (now (row .entry)) (now (samples .entry)) (now (sums .entry)))) (now (sums .entry)) ⌝ }
+    ensures { λ _. ⌜ now (out .exit) ≡ by (arrivalSays (arrivalOf s (now (row .entry)) (now (samples .entry)) (now (sums .entry)))) (outputAfter (arrivalOf s (now (row .entry)) (now (samples .entry)) (now (sums .entry))) (now (out .entry))) (now (out .entry)) ⌝ }
+{
+    let t = s.table;
+    let width = s.width;
+    let arrival = (s.rows + s.steps) as usize;
+    let d = delay(t) as usize;
+    let mut acc = [2199023255552u64; 1024];
+    let failed = values(&mut acc, t, width, arrival, d, samples, sums, row);
+    if failed < t.count {
+        return Verdict::Refused(19, failed as u32);
+    }
+    carry_all(sums, t, width, arrival, d, samples, row);
+    let p = (arrival % 32) * width;
+    cut_row(&mut samples[p..p + width], row, width, 0);
+    if d <= arrival {
+        write_row(out, &acc, width, t.t);
+    }
+    Verdict::Accepted
+}
+
+// The questions of a row before 19, on the lengths of the stores and the output.
+fn row_asked(s: Scan, row: &[u16], samples: usize, sums: usize, out: usize) -> Verdict
+    ensures { λ v. ⌜ v ≡ rowAsked s (now (row .entry)) samples sums out ⌝ }
+{
+    if !state_good(s) {
+        return Verdict::Refused(14, 0);
+    }
+    if s.closed {
+        return Verdict::Refused(15, 0);
+    }
+    if 65535 <= s.rows {
+        return Verdict::Refused(16, 0);
+    }
+    let width = s.width;
+    if row.len() != width {
+        return Verdict::Refused(17, 0);
+    }
+    let t = s.table;
+    if !lent_good(width, t.count, samples, sums, out) {
+        return Verdict::Refused(13, 0);
+    }
+    let place = first_above(row, (power(t.b) - 1) as u16);
+    if place < row.len() {
+        return Verdict::Refused(18, place as u32);
+    }
+    Verdict::Accepted
+}
+
+// A row comes in: questions 14, 15, 16, 17, 13, 18 and 19. Accepted, the stores hold it, and the first L places of the
+// output the filtered row that is due, if one is; refused, nothing is changed.
+pub fn row(s: Scan, row: &[u16], samples: &mut [u16], sums: &mut [u32], out: &mut [i32]) -> Moved
+    ensures { λ r. ⌜ r .answer ≡ rowAnswer s (rowSays s (now (row .entry)) (now (samples .entry)) (now (sums .entry)) (length (now (out .entry)))) ⌝ }
+    ensures { λ r. ⌜ r .scan ≡ by (rowSays s (now (row .entry)) (now (samples .entry)) (now (sums .entry)) (length (now (out .entry)))) (rowIn s) s ⌝ }
+    ensures { λ _. ⌜ now (samples .exit) ≡ by (rowSays s (now (row .entry)) (now (samples .entry)) (now (sums .entry)) (length (now (out .entry)))) (samplesAfter (arrivalOf s (now (row .entry)) (now (samples .entry)) (now (sums .entry)))) (now (samples .entry)) ⌝ }
+    ensures { λ _. ⌜ now (sums .exit) ≡ by (rowSays s (now (row .entry)) (now (samples .entry)) (now (sums .entry)) (length (now (out .entry)))) (sumsAfter (arrivalOf s (now (row .entry)) (now (samples .entry)) (now (sums .entry)))) (now (sums .entry)) ⌝ }
+    ensures { λ _. ⌜ now (out .exit) ≡ by (rowSays s (now (row .entry)) (now (samples .entry)) (now (sums .entry)) (length (now (out .entry)))) (outputAfter (arrivalOf s (now (row .entry)) (now (samples .entry)) (now (sums .entry))) (now (out .entry))) (now (out .entry)) ⌝ }
+{
+    let v = row_asked(s, row, samples.len(), sums.len(), out.len());
+    match v {
+        Verdict::Refused(number, place) => Moved {
+            answer: Answer::Refused(number, place),
+            scan: s,
+        },
+        Verdict::Accepted => {
+            let w = arrive(s, row, samples, sums, out);
+            match w {
+                Verdict::Refused(number, place) => Moved {
+                    answer: Answer::Refused(number, place),
+                    scan: s,
+                },
+                Verdict::Accepted => row_taken(s),
+            }
+        }
+    }
+}
+
+// The answer to a row that was taken in, and the scan after it.
+fn row_taken(s: Scan) -> Moved
+    requires { ⌜ (s .rows ≤ 65535) × (s .steps ≤ 15) ⌝ }
+    ensures { λ r. ⌜ r .answer ≡ rowAnswer s Accepted ⌝ }
+    ensures { λ r. ⌜ r .scan ≡ rowIn s ⌝ }
+{
+    let a = s.rows + s.steps;
+    let d = delay(s.table);
+    let mut after = s;
+    after.rows = s.rows + 1;
+    if a < d {
+        return Moved {
+            answer: Answer::Waiting,
+            scan: after,
+        };
+    }
+    Moved {
+        answer: Answer::Row(a - d),
+        scan: after,
+    }
+}

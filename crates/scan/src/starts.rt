@@ -1,0 +1,107 @@
+// Starting and closing a scan.
+ghost use mathlib.Core.Path.{_≡_};
+ghost use mathlib.Core.List.{_++_};
+ghost use Prim.Native.Nat.{_*_, _≤_};
+ghost use lib.ListN.{length, drop};
+ghost use Rattle.arith.specs.Tab.{tab};
+ghost use Rattle.scan.specs.Calls.{by, startSays, startScan, fresh, wiped, closeSays, shut};
+use crate::Scan;
+use crate::Started;
+use crate::fetch::wipe;
+use crate::state::state_good;
+use crate::state::stores_good;
+use layout::Table;
+use layout::Verdict;
+use limits::accepted;
+use rule::width_good;
+
+// Zeros into the first n sums.
+fn wipe_sums(to: &mut [u32], n: usize)
+    requires { ⌜ n ≤ length (now to) ⌝ }
+    ensures { λ _. ⌜ now (to .exit) ≡ tab n (λ k. 0) ++ drop n (now (to .entry)) ⌝ }
+{
+    let mut c = 0;
+    while c < n {
+        to[c] = 0;
+        c += 1;
+    }
+}
+
+// A scan with no row in it.
+fn begun(table: Table, width: usize) -> Scan
+    ensures { λ s. ⌜ s ≡ fresh table width ⌝ }
+{
+    Scan {
+        table,
+        width,
+        rows: 0,
+        steps: 0,
+        closed: false,
+    }
+}
+
+// Questions 11, 12 and 13, on the lengths of the stores.
+fn start_asked(t: Table, width: usize, samples: usize, sums: usize) -> Verdict
+    ensures { λ v. ⌜ v ≡ startSays t width samples sums ⌝ }
+{
+    if !accepted(t) {
+        return Verdict::Refused(11, 0);
+    }
+    if !width_good(width) {
+        return Verdict::Refused(12, 0);
+    }
+    if !stores_good(width, t.count, samples, sums) {
+        return Verdict::Refused(13, 0);
+    }
+    Verdict::Accepted
+}
+
+// Starts a scan: questions 11, 12 and 13. Accepted, it sets the first 32·L samples and (rectangles)·L sums to zero.
+// Refused, it hands out a scan of width 0, which every other call refuses.
+pub fn start(t: Table, width: usize, samples: &mut [u16], sums: &mut [u32]) -> Started
+    ensures { λ r. ⌜ r .verdict ≡ startSays t width (length (now (samples .entry))) (length (now (sums .entry))) ⌝ }
+    ensures { λ r. ⌜ r .scan ≡ startScan (startSays t width (length (now (samples .entry))) (length (now (sums .entry)))) t width ⌝ }
+    ensures { λ _. ⌜ now (samples .exit) ≡ by (startSays t width (length (now (samples .entry))) (length (now (sums .entry)))) (wiped (32 * width) (now (samples .entry))) (now (samples .entry)) ⌝ }
+    ensures { λ _. ⌜ now (sums .exit) ≡ by (startSays t width (length (now (samples .entry))) (length (now (sums .entry)))) (wiped (t .count * width) (now (sums .entry))) (now (sums .entry)) ⌝ }
+{
+    let v = start_asked(t, width, samples.len(), sums.len());
+    match v {
+        Verdict::Refused(_, _) => Started {
+            verdict: v,
+            scan: begun(t, 0),
+        },
+        Verdict::Accepted => {
+            wipe(samples, 32 * width);
+            wipe_sums(sums, t.count * width);
+            Started {
+                verdict: v,
+                scan: begun(t, width),
+            }
+        }
+    }
+}
+
+// Closes a scan: questions 14 and 15.
+pub fn close(s: Scan) -> Started
+    ensures { λ r. ⌜ r .verdict ≡ closeSays s ⌝ }
+    ensures { λ r. ⌜ r .scan ≡ by (closeSays s) (shut s) s ⌝ }
+{
+    if !state_good(s) {
+        return Started {
+            verdict: Verdict::Refused(14, 0),
+            scan: s,
+        };
+    }
+    if s.closed {
+        return Started {
+            verdict: Verdict::Refused(15, 0),
+            scan: s,
+        };
+    }
+    let mut after = s;
+    after.closed = true;
+    Started {
+        verdict: Verdict::Accepted,
+        scan: after,
+    }
+}
