@@ -110,25 +110,29 @@ floor-fits w t {p} {n} {high} {low} (negsuc a) d h l x y =
     let e = d .is in
     rw (floor-fits-neg w t (suc a)) (le→leb (suc a) (2 ^ (w - 1) * 2 ^ t) (omega arith))
 
--- the scaled sums under any weights are at most their extreme
+-- sums of at most M·N·(2^b - 1) each, under any weights, are at most their extreme
 under-extreme :
-    (part : ℤ → ℕ) (t : Table) {x : Scan} → HasBits (t .b) x → (r c : ℤ)
-    → sum (t .count) (λ k. part (rect t k .weight) * scaledSum t x (rect t k) r c) ≤ (2 ^ t .b - 1) * sum (t .count) (terms part t)
-under-extreme part t {x} h r c =
-    subst (λ s. sum (t .count) (λ k. part (rect t k .weight) * scaledSum t x (rect t k) r c) ≤ s) (sum-scale (t .count) (2 ^ t .b - 1) (terms part t))
-    (sum-mono (t .count) (λ k l.
-    let f = le-trans (scaled-le-full t x (rect t k) r c) (full-most (t .b) h (rect t k) r c) in
-    let m = mul-le-mul-left (part (rect t k .weight)) f in
-    omega arith))
+    (part : ℤ → ℕ) (t : Table) (s : ℕ → ℕ) → ((k : ℕ) → k < t .count → s k ≤ rowsOf (rect t k) * colsOf (rect t k) * (2 ^ t .b - 1))
+    → sum (t .count) (λ k. part (rect t k .weight) * s k) ≤ (2 ^ t .b - 1) * sum (t .count) (terms part t)
+under-extreme part t s h =
+    subst (λ e. sum (t .count) (λ k. part (rect t k .weight) * s k) ≤ e) (sum-scale (t .count) (2 ^ t .b - 1) (terms part t))
+    (sum-mono (t .count) (λ k l. let m = mul-le-mul-left (part (rect t k .weight)) (h k l) in omega arith))
+
+-- their weighted sum, divided and rounded down, fits the pixel word
+pub value-fits :
+    (t : Table) → acceptable t ≡ true
+    → (s : ℕ → ℕ) → ((k : ℕ) → k < t .count → s k ≤ rowsOf (rect t k) * colsOf (rect t k) * (2 ^ t .b - 1))
+    → T (fitsSigned (t .w) (floorDiv (sumℤ (t .count) (λ k. rect t k .weight *ℤ pos (s k))) (t .t)))
+value-fits t a s h =
+    let g = granted t a in
+    let v = and-yes (ltb ((2 ^ t .b - 1) * sum (t .count) (terms posPart t) / 2 ^ t .t) (2 ^ (t .w - 1))) _ (subst T (value-slots t) (g .value)) in
+    let low : (2 ^ t .b - 1) * sum (t .count) (terms negPart t) ≤ 2 ^ (t .w - 1) * 2 ^ t .t =
+    subst (λ n. (2 ^ t .b - 1) * sum (t .count) (terms negPart t) ≤ n) (pow-add 2 (t .w - 1) (t .t)) (leb→le _ _ (v .1)) in
+    floor-fits (t .w) (t .t) _ (weighted t s) (under-extreme posPart t s h) (under-extreme negPart t s h) (ltb→lt _ _ (v .0)) low
 
 -- P2: the pixel fits the pixel word
 pub pixel-fits :
     (t : Table) → acceptable t ≡ true → {x : Scan} → HasBits (t .b) x → (r c : ℤ) → T (fitsSigned (t .w) (pixelOf t x r c))
 unfolding pixelOf cutValue
 pixel-fits t a {x} h r c =
-    let g = granted t a in
-    let v = and-yes (ltb ((2 ^ t .b - 1) * sum (t .count) (terms posPart t) / 2 ^ t .t) (2 ^ (t .w - 1))) _ (subst T (value-slots t) (g .value)) in
-    let low : (2 ^ t .b - 1) * sum (t .count) (terms negPart t) ≤ 2 ^ (t .w - 1) * 2 ^ t .t =
-    subst (λ n. (2 ^ t .b - 1) * sum (t .count) (terms negPart t) ≤ n) (pow-add 2 (t .w - 1) (t .t)) (leb→le _ _ (v .1)) in
-    floor-fits (t .w) (t .t) (cutValue t x r c) (weighted t (λ k. scaledSum t x (rect t k) r c))
-    (under-extreme posPart t h r c) (under-extreme negPart t h r c) (ltb→lt _ _ (v .0)) low
+    value-fits t a (λ k. scaledSum t x (rect t k) r c) (λ k l. le-trans (scaled-le-full t x (rect t k) r c) (full-most (t .b) h (rect t k) r c))

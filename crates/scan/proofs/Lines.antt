@@ -73,7 +73,7 @@ place-le t d h l r =
     omega arith
 
 -- n quotients by q, their sum cut by r, scaled back
-cut-le : (w n m a p q r : ℕ) → w ≤ n * (m / q) → m * p ≤ a → w / r * (p * q * r) ≤ n * a
+pub cut-le : (w n m a p q r : ℕ) → w ≤ n * (m / q) → m * p ≤ a → w / r * (p * q * r) ≤ n * a
 cut-le w n m a p q r h l =
     let x = mul-le-mul-right (p * q) (le-trans (div-mul-le-self w r) h) in
     let y = mul-le-mul-left n (le-trans (mul-le-mul-right p (div-mul-le-self m q)) l) in

@@ -1,7 +1,8 @@
 use denote.Ref.{now}
 use Prim.Native.Nat.{ℕ, _+_, _-_, _*_, _/_, _%_, _^_, _≤_, _<_}
 use native.Mathlib.Omega.{arith}
-use native.Mathlib.Nat.{zero-div, mod-lt, mul-le-mul-right}
+use native.Mathlib.Nat.{zero-div}
+use Rattle.scan.proofs.Places.{place-most}
 use mathlib.Core.Logic.{_≢_}
 use mathlib.Core.Path.{_≡_, ap, _∙_}
 use mathlib.Core.List.{List, _++_}
@@ -41,13 +42,6 @@ module _ (l a : ℕ) (row samples : List ℕ) (m k q1 : ℕ) (to : List ℕ) whe
       rw (sub-high m k h, ne-eqb (m - k) a e)
       (ap (λ t. t ++ drop l to)
       (tab-cong l (λ c i. ap (λ x. x / 2 ^ q1) (getD-take (p + l - p) (drop p samples) c 0 (omega arith) ∙ getD-drop p samples c 0))))
-
--- a row's place lies within 32 rows
-place-most : (e l : ℕ) → e % 32 * l + l ≤ 32 * l
-place-most e l =
-    let h : e % 32 ≤ 31 = let m = mod-lt e {m = 32} in omega arith in
-    let p = mul-le-mul-right l h in
-    omega arith
 
 -- src/fetch.rt:50:8
 add-if1 : tie.Need-add-if1

@@ -1,0 +1,206 @@
+-- One rectangle at an arrival: its line of cut column sums, and the values with its part.
+-- Assumes nothing.
+use Prim.Native.Nat.{ℕ, zero, suc, _+_, _-_, _*_, _/_, _^_, _≤_, _<_, zero-le}
+use native.Mathlib.Omega.{arith}
+use native.Mathlib.Numerals.{add-one}
+use native.Mathlib.Nat.{zero-div, le-trans, le-of-eq, mul-le-mul}
+use mathlib.Core.Path.{_≡_, refl, sym, ap, _∙_, subst}
+use mathlib.Core.Bool.{Bool, true, false, cond, not}
+use mathlib.Core.List.{List, _++_}
+use lib.Dec.{T, ltb, ltb→lt, nltb→le}
+use lib.IntN.{ℤ, pos, negsuc, _*ℤ_}
+use lib.ListN.{length, getD, take, drop, replicate, List·getD-append}
+use lib.Pow.{shr-mono}
+use lib.Seq.{getD-append-add, getD-drop, getD-take, length-take-le}
+use borrow.Rule.Slice.PartMut.{putMid, postOf}
+use Rattle.arith.specs.All.{all}
+use Rattle.arith.specs.Diff.{Diff}
+use Rattle.arith.specs.Part.{posPart, negPart}
+use Rattle.arith.specs.Sum.{sumℤ}
+use Rattle.arith.specs.Tab.{tab}
+use Rattle.arith.specs.Twos.{fitsSigned}
+use Rattle.arith.proofs.Bools.{true-of}
+use Rattle.arith.proofs.Ints.{diff-add, diff-parts, diff-scale, diff-shift, sumℤ-suc}
+use Rattle.arith.proofs.Passes.{pass-done, pass-length}
+use Rattle.arith.proofs.Sums.{sum-cong}
+use Rattle.arith.proofs.Tabs.{length-tab, getD-tab}
+use Rattle.arith.proofs.Words.{fits-mag}
+use Rattle.layout.specs.Contents.{rect}
+use Rattle.layout.specs.Measure.{colsOf}
+use Rattle.limits.specs.Limits.{acceptable}
+use Rattle.limits.proofs.Granted.{granted}
+use Rattle.rule.specs.Sums.{covered}
+use Rattle.scan.specs.Arrivals.{Arrival, leaving, entering, stored, newSum, sumMost, sumGood, lineAt, windowAt, scaledAt}
+use Rattle.scan.specs.Passes.{movable, movedSum, lineFrom, lineSum, weighed, Weighed}
+use Rattle.scan.proofs.Carries.{good-at}
+use Rattle.scan.proofs.Lines.{line-sum, window-le}
+
+-- ---- the line
+
+pub same-at : (a n i : ℕ) → getD (replicate n a) i a ≡ a
+same-at a zero i = refl
+same-at a (suc n) zero = refl
+same-at a (suc n) (suc i) = same-at a n i
+
+append-at : (p q : List ℕ) (n j : ℕ) → length p ≡ n → getD (p ++ q) (n + j) 0 ≡ getD q j 0
+append-at p q n j e = ap (λ i. getD (p ++ q) (i + j) 0) (sym e) ∙ getD-append-add p q j 0
+
+-- zeros with w numbers in the place of those from place 16 on
+module _ (zeros : List ℕ) (w : ℕ) (f : ℕ → ℕ) (long : 16 ≤ length zeros) (none : (i : ℕ) → getD zeros i 0 ≡ 0) where
+  before-column : (i : ℕ) → i < 16 → getD (putMid 16 (16 + w - 16) zeros (tab w f)) i 0 ≡ 0
+  before-column i h =
+      let l = length-take-le 16 zeros long in
+      List·getD-append (take 16 zeros) (tab w f ++ postOf 16 (16 + w - 16) zeros) 0 i (omega arith) ∙ getD-take 16 zeros i 0 h ∙ none i
+
+  at-column : (j : ℕ) → getD (putMid 16 (16 + w - 16) zeros (tab w f)) (16 + j) 0 ≡ cond (ltb j w) (f j) 0
+  at-column j =
+      append-at (take 16 zeros) (tab w f ++ postOf 16 (16 + w - 16) zeros) 16 j (length-take-le 16 zeros long) ∙ go (ltb j w) (ltb→lt j w) (nltb→le j w)
+    where
+      go : (c : Bool) → (T c → j < w) → (T (not c) → w ≤ j) → getD (tab w f ++ postOf 16 (16 + w - 16) zeros) j 0 ≡ cond c (f j) 0
+      go true y n =
+          let h = y tt in
+          let l = length-tab w f in
+          List·getD-append (tab w f) (postOf 16 (16 + w - 16) zeros) 0 j (omega arith) ∙ getD-tab w f j 0 h
+      go false y n =
+          let h = n tt in
+          let e : j ≡ w + (j - w) = omega arith in
+          ap (λ i. getD (tab w f ++ postOf 16 (16 + w - 16) zeros) i 0) e
+          ∙ append-at (tab w f) (postOf 16 (16 + w - 16) zeros) w (j - w) (length-tab w f)
+          ∙ getD-drop (16 + w - 16) (drop 16 zeros) (j - w) 0 ∙ getD-drop 16 zeros (16 + w - 16 + (j - w)) 0 ∙ none _
+
+-- the cut column sums of rectangle k from place 16 on, and zeros elsewhere
+pub record Lined (v : Arrival) (k : ℕ) (line : List ℕ) : Type 0 where
+  pub before : (i : ℕ) → i < 16 → getD line i 0 ≡ 0
+  pub column : (j : ℤ) → lineFrom line j ≡ lineAt v k j / 2 ^ v .table .q2
+
+div-cond : (c : Bool) (a q : ℕ) → cond c (a / 2 ^ q) 0 ≡ cond c a 0 / 2 ^ q
+div-cond true a q = refl
+div-cond false a q = sym (zero-div (2 ^ q))
+
+pub lined :
+    (v : Arrival) (k : ℕ) (zeros : List ℕ) → 16 ≤ length zeros → ((i : ℕ) → getD zeros i 0 ≡ 0)
+    → {ys : List ℕ} → ys ≡ tab (v .width) (λ c. newSum v k c / 2 ^ v .table .q2)
+    → Lined v k (putMid 16 (16 + v .width - 16) zeros ys)
+unfolding lineFrom lineAt
+lined v k zeros long none e = rw e (record { before = before-column zeros (v .width) _ long none; column = column })
+  where
+    column : (j : ℤ) → lineFrom (putMid 16 (16 + v .width - 16) zeros (tab (v .width) (λ c. newSum v k c / 2 ^ v .table .q2))) j ≡ lineAt v k j / 2 ^ v .table .q2
+    column (pos j) = at-column zeros (v .width) _ long none j ∙ div-cond (ltb j (v .width)) (newSum v k j) (v .table .q2)
+    column (negsuc j) = sym (zero-div (2 ^ v .table .q2))
+
+-- question 19 of a column, and its new sum where it holds, by what the passes read
+module _
+  (v : Arrival) (k c : ℕ) {s off on bound : ℕ} (es : s ≡ stored v k c) (eo : off ≡ leaving v k c) (en : on ≡ entering v k c)
+  (eb : bound ≡ sumMost (v .table) (rect (v .table) k)) where
+
+  pub movable-good : movable s off on bound ≡ sumGood v k c
+  unfolding sumGood newSum
+  movable-good = rw (es, eo, en, eb)
+
+  pub moved-new : T (sumGood v k c) → movedSum s off on bound ≡ newSum v k c
+  unfolding newSum
+  moved-new g = ap (λ t. cond t (s - off + on) (bound + 1)) (movable-good ∙ true-of _ g) ∙ rw (es, eo, en)
+
+-- where question 19 holds, each place is within the bound
+module _ (v : Arrival) (k : ℕ) (good : T (all (v .width) (sumGood v k))) where
+  column-le : (j : ℕ) → lineAt v k (pos j) ≤ sumMost (v .table) (rect (v .table) k)
+  unfolding lineAt
+  column-le j = go (ltb j (v .width)) (ltb→lt j (v .width))
+    where
+      go : (c : Bool) → (T c → j < v .width) → cond c (newSum v k j) 0 ≤ sumMost (v .table) (rect (v .table) k)
+      go true y = good-at v k good j (y tt) .1
+      go false y = zero-le
+
+  pub place-most : {line : List ℕ} → Lined v k line → (i : ℕ) → getD line i 0 ≤ sumMost (v .table) (rect (v .table) k) / 2 ^ v .table .q2
+  unfolding lineFrom
+  place-most {line} l i = go (ltb i 16) (ltb→lt i 16) (nltb→le i 16)
+    where
+      go : (c : Bool) → (T c → i < 16) → (T (not c) → 16 ≤ i) → getD line i 0 ≤ sumMost (v .table) (rect (v .table) k) / 2 ^ v .table .q2
+      go true y n = let e = l .before i (y tt) in omega arith
+      go false y n =
+          let h = n tt in
+          let e : i ≡ 16 + (i - 16) = omega arith in
+          let p = ap (λ m. getD line m 0) e ∙ l .column (pos (i - 16)) in
+          let m = shr-mono (v .table .q2) (column-le (i - 16)) in
+          le-trans (le-of-eq p) m
+
+-- the windows of the line are those of the rule
+pub line-scaled : (v : Arrival) (k : ℕ) {line : List ℕ} → Lined v k line → (c : ℕ) → lineSum (v .table) (rect (v .table) k) line c ≡ scaledAt v k c
+unfolding lineSum windowAt scaledAt
+line-scaled v k {line} l c =
+    ap (λ s. s / 2 ^ v .table .q3 * 2 ^ (v .table .q1 + v .table .q2 + v .table .q3))
+    (sum-cong (colsOf (rect (v .table) k)) (λ j h. l .column (covered (pos c) (rect (v .table) k .trailcol) j)))
+
+-- ---- the values
+
+parts-le : (z : ℤ) → T (fitsSigned 16 z) → (posPart z ≤ 32768) × (negPart z ≤ 32768)
+parts-le (pos n) t = let m = fits-mag 16 (pos n) t in (omega arith, zero-le)
+parts-le (negsuc n) t = let m = fits-mag 16 (negsuc n) t in (zero-le, omega arith)
+
+-- the scaled sum that a rectangle adds is below 2^22
+scaled-lt :
+    (v : Arrival) (k : ℕ) → acceptable (v .table) ≡ true → k < v .table .count → T (all (v .width) (sumGood v k)) → {line : List ℕ} → Lined v k line
+    → (c : ℕ) → lineSum (v .table) (rect (v .table) k) line c < 4194304
+scaled-lt v k e h good {line} l c =
+    let g = granted (v .table) e in
+    let b = g .bounds k h in
+    let d = diff-shift {q = b .col .trail + 112} {m = 128} (b .col .trail-is) (omega arith) in
+    subst (λ s. s < 4194304) (line-sum (v .table) (rect (v .table) k) line (b .col .trail + 112) c (l .before) d (omega arith))
+    (window-le (v .table) (rect (v .table) k) line (b .col .trail + 112 - 111) c (g .q1-less) (g .bits-most) (b .rows-most) (b .cols-most) (place-most v k good l))
+
+few-below : (v : Arrival) (k : ℕ) → acceptable (v .table) ≡ true → k < v .table .count → k ≤ 15
+few-below v k e h = let f = granted (v .table) e .few in omega arith
+
+-- the values leave room for a rectangle more
+pub weighed-room :
+    (v : Arrival) (k : ℕ) → acceptable (v .table) ≡ true → k < v .table .count → {acc : List ℕ} → Weighed v k acc
+    → (c : ℕ) → c < v .width → (137438953472 ≤ getD acc c 0) × (getD acc c 0 ≤ 4398046511104)
+weighed-room v k e h w c p =
+    let f = few-below v k e h in
+    let a = w .low c p in
+    let b = w .high c p in
+    (omega arith, omega arith)
+
+-- the values with the part of rectangle k
+module _
+  (v : Arrival) (k : ℕ) (e : acceptable (v .table) ≡ true) (h : k < v .table .count) (good : T (all (v .width) (sumGood v k)))
+  {line acc : List ℕ} (l : Lined v k line) (w : Weighed v k acc) where
+
+  abbrev next : ℕ → ℕ
+  next c = weighed (v .table) (rect (v .table) k) line acc c
+
+  above-le : (c : ℕ) → posPart (rect (v .table) k .weight) * lineSum (v .table) (rect (v .table) k) line c ≤ 137438953472
+  above-le c =
+      let s : lineSum (v .table) (rect (v .table) k) line c ≤ 4194304 = let s = scaled-lt v k e h good l c in omega arith in
+      mul-le-mul (parts-le _ (granted (v .table) e .weight k h) .0) s
+
+  below-le : (c : ℕ) → negPart (rect (v .table) k .weight) * lineSum (v .table) (rect (v .table) k) line c ≤ 137438953472
+  below-le c =
+      let s : lineSum (v .table) (rect (v .table) k) line c ≤ 4194304 = let s = scaled-lt v k e h good l c in omega arith in
+      mul-le-mul (parts-le _ (granted (v .table) e .weight k h) .1) s
+
+  next-value : (c : ℕ) → c < v .width → Diff (sumℤ (k + 1) (λ i. rect (v .table) i .weight *ℤ pos (scaledAt v i c))) (next c) 2199023255552
+  next-value c p =
+      let o = w .low c p in
+      let b = below-le c in
+      let f = few-below v k e h in
+      rw (add-one k, sumℤ-suc k, ← line-scaled v k l c)
+      (diff-shift (diff-add (w .value c p) (diff-scale (lineSum (v .table) (rect (v .table) k) line c) (diff-parts (rect (v .table) k .weight)))) (omega arith))
+
+  next-low : (c : ℕ) → c < v .width → 2199023255552 ≤ next c + (k + 1) * 137438953472
+  next-low c p = let o = w .low c p in let b = below-le c in let f = few-below v k e h in omega arith
+
+  next-high : (c : ℕ) → c < v .width → next c ≤ 2199023255552 + (k + 1) * 137438953472
+  next-high c p = let o = w .high c p in let a = above-le c in omega arith
+
+  pub weighed-next : {acc′ : List ℕ} → v .width ≤ 1024 → acc′ ≡ tab (v .width) next ++ drop (v .width) acc → Weighed v (k + 1) acc′
+  weighed-next {acc′} n is =
+      record {
+        long = rw (ap length is ∙ pass-length (v .width) next acc (le-trans n (w .long))) (w .long);
+        value = λ c p. rw (at c p) (next-value c p);
+        low = λ c p. rw (at c p) (next-low c p);
+        high = λ c p. rw (at c p) (next-high c p);
+      }
+    where
+      at : (c : ℕ) → c < v .width → getD acc′ c 0 ≡ next c
+      at c p = ap (λ xs. getD xs c 0) is ∙ pass-done (v .width) next acc c 0 p
