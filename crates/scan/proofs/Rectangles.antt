@@ -90,9 +90,8 @@ lined v k zeros long none e = rw e (record { before = before-column zeros (v .wi
 
 -- question 19 of a column, and its new sum where it holds, by what the passes read
 module _
-  (v : Arrival) (k c : ℕ) {s off on bound : ℕ} (es : s ≡ stored v k c) (eo : off ≡ leaving v k c) (en : on ≡ entering v k c)
-  (eb : bound ≡ sumMost (v .table) (rect (v .table) k)) where
-
+    (v : Arrival) (k c : ℕ) {s off on bound : ℕ} (es : s ≡ stored v k c) (eo : off ≡ leaving v k c) (en : on ≡ entering v k c)
+    (eb : bound ≡ sumMost (v .table) (rect (v .table) k)) where
   pub movable-good : movable s off on bound ≡ sumGood v k c
   unfolding sumGood newSum
   movable-good = rw (es, eo, en, eb)
@@ -163,9 +162,8 @@ weighed-room v k e h w c p =
 
 -- the values with the part of rectangle k
 module _
-  (v : Arrival) (k : ℕ) (e : acceptable (v .table) ≡ true) (h : k < v .table .count) (good : T (all (v .width) (sumGood v k)))
-  {line acc : List ℕ} (l : Lined v k line) (w : Weighed v k acc) where
-
+    (v : Arrival) (k : ℕ) (e : acceptable (v .table) ≡ true) (h : k < v .table .count) (good : T (all (v .width) (sumGood v k)))
+    {line acc : List ℕ} (l : Lined v k line) (w : Weighed v k acc) where
   abbrev next : ℕ → ℕ
   next c = weighed (v .table) (rect (v .table) k) line acc c
 

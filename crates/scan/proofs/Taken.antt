@@ -116,5 +116,5 @@ keeps p l row xs e h =
     let d = length-drop p xs in
     let k : length (take (p + l - p) (drop p xs)) ≡ l = length-take-le (p + l - p) (drop p xs) (omega arith) ∙ n in
     let r : tab l (λ c. getD row c 0 / 2 ^ 0) ++ drop l (take (p + l - p) (drop p xs)) ≡ row =
-      pass-whole l (take (p + l - p) (drop p xs)) {f = λ c. getD row c 0 / 2 ^ 0} {g = λ c. getD row c 0} k (λ c i. div-one (getD row c 0)) ∙ tab-getD row l 0 e in
+    pass-whole l (take (p + l - p) (drop p xs)) {f = λ c. getD row c 0 / 2 ^ 0} {g = λ c. getD row c 0} k (λ c i. div-one (getD row c 0)) ∙ tab-getD row l 0 e in
     rw (r, e, drop-drop l p xs) (sym (append-assoc (take p xs) row (drop (p + l) xs)))

@@ -205,10 +205,16 @@ weigh-requires c κs =
     let s = begun (bounded (b .before)) in
     let l = line (b .before) good in
     let r = weighed-room (arrived s) (s .args .k) (s .pre .0 .0) (s .pre .0 .2) (s .pre .1 .1) in
-    let w = s .pre .1 .0 .width-most in
-    ((s .pre .0 .0, s .pre .0 .2, w,
-    same-len-mid 16 (16 + s .args .width - 16) zeros (b .before .renew .last .0) (b .line2 .given), le-trans w (s .pre .1 .1 .long)),
-    (l .before, (place-most (arrived s) (s .args .k) good l, r)))
+    let w = s .pre .1 .0 .width-most in (
+      (
+        s .pre .0 .0,
+        s .pre .0 .2,
+        w,
+        same-len-mid 16 (16 + s .args .width - 16) zeros (b .before .renew .last .0) (b .line2 .given),
+        le-trans w (s .pre .1 .1 .long),
+      ),
+      (l .before, (place-most (arrived s) (s .args .k) good l, r)),
+    )
 
 -- src/arrive.rt:68:1
 same-length : tie.Need-same-length
@@ -221,9 +227,10 @@ returns-2 c =
     let e = u .before .before .before in
     let r = e .before .before in
     let s = begun (bounded r) in
-    let good = passed e in
-    (sym (yes (answered r) (e .if1 .left)),
-    λ h. weighed-next (arrived s) (s .args .k) (s .pre .0 .0) (s .pre .0 .2) good (line r good) (s .pre .1 .1) (s .pre .1 .0 .width-most) (u .weigh .ensures))
+    let good = passed e in (
+      sym (yes (answered r) (e .if1 .left)),
+      λ h. weighed-next (arrived s) (s .args .k) (s .pre .0 .0) (s .pre .0 .2) good (line r good) (s .pre .1 .1) (s .pre .1 .0 .width-most) (u .weigh .ensures),
+    )
 
 pub rectangle-spec : {M : Type 1} → statement M
 rectangle-spec =

@@ -59,9 +59,10 @@ returns c =
     let r = c .before .before .before in
     let l = r .before .before .before in
     let s = l .before .before .before .before .before in
-    let t = r .before .before .loop-test .taken in
-    (sym (first-at (s .args .t .count) (passes (arrived s)) (l .loop .k) t (l .loop .inv .1) (no (r .rectangle .ensures .0) (c .if1 .taken))),
-    λ h. absurd (omega arith))
+    let t = r .before .before .loop-test .taken in (
+      sym (first-at (s .args .t .count) (passes (arrived s)) (l .loop .k) t (l .loop .inv .1) (no (r .rectangle .ensures .0) (c .if1 .taken))),
+      λ h. absurd (omega arith),
+    )
 
 -- src/arrive.rt:145:9
 add-k : tie.Need-add-k Inv-loop μ-loop

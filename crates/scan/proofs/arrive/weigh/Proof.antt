@@ -108,11 +108,19 @@ add-window-requires c κs = let b = c .before .before in
     let n = d .cols-most in
     let o = d .cols-pos in
     let pre = s .pre in
-    let v = p .sign-parts .ensures .1 in
-    ((omega arith, omega arith, pre .0 .2, omega arith, pre .0 .4, omega arith), ((w, omega arith, v .0, v .1),
-    ((λ i. le-trans (pre .1 .1 .0 i) (place-le (s .args .t3) (rect (s .args .t3) (s .args .k)) x y r)),
-    ((λ i l. rw e (window-le (s .args .t3) (rect (s .args .t3) (s .args .k)) (s .args .line .now) (b .biased-byte .result - 111) i x y r n (pre .1 .1 .0))),
-    pre .1 .1 .1))))
+    let v = p .sign-parts .ensures .1 in (
+      (omega arith, omega arith, pre .0 .2, omega arith, pre .0 .4, omega arith),
+      (
+        (w, omega arith, v .0, v .1),
+        (
+          (λ i. le-trans (pre .1 .1 .0 i) (place-le (s .args .t3) (rect (s .args .t3) (s .args .k)) x y r)),
+          (
+            (λ i l. rw e (window-le (s .args .t3) (rect (s .args .t3) (s .args .k)) (s .args .line .now) (b .biased-byte .result - 111) i x y r n (pre .1 .1 .0))),
+            pre .1 .1 .1,
+          ),
+        ),
+      ),
+    )
 
 -- src/arrive.rt:107:1
 same-length : tie.Need-same-length

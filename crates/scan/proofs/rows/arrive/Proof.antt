@@ -192,11 +192,16 @@ returns-2 c = let o = c .before in
     let v = arrived w in
     let r = accepted e in
     let a = w .values .ensures .1 (e .if1 .left) in
-    let d = rw (w .before .before .before .before .delay .ensures) at (t .if2 .taken) in
-    (sym r,
-     (rw r (ap₂ (λ j ys. putMid (place w) j (z .args .samples .now) ys) (part-long (place w) (z .args .s .width)) (m .cut-row .ensures) ∙ keeps (place w) (z .args .s .width) (z .args .row .now) (z .args .samples .now) (z .pre .1 .1 .0) (place-end w)),
-      (rw r (b .carry-all .ensures),
-       rw (r, le-ltb _ _ d) (o .write-row .ensures ∙ ap (λ l. l ++ drop (z .args .s .width) (z .args .out .now)) (tab-cong (z .args .s .width) (settles v _ a))))))
+    let d = rw (w .before .before .before .before .delay .ensures) at (t .if2 .taken) in (
+      sym r,
+      (
+        rw r (ap₂ (λ j ys. putMid (place w) j (z .args .samples .now) ys) (part-long (place w) (z .args .s .width)) (m .cut-row .ensures) ∙ keeps (place w) (z .args .s .width) (z .args .row .now) (z .args .samples .now) (z .pre .1 .1 .0) (place-end w)),
+        (
+          rw r (b .carry-all .ensures),
+          rw (r, le-ltb _ _ d) (o .write-row .ensures ∙ ap (λ l. l ++ drop (z .args .s .width) (z .args .out .now)) (tab-cong (z .args .s .width) (settles v _ a))),
+        ),
+      ),
+    )
 
 -- src/rows.rt:26:1
 same-length-6 : tie.Need-same-length-6
@@ -215,10 +220,13 @@ returns-3 c = let m = c .before .before .before in
     let w = e .before .before .before in
     let z = start w in
     let r = accepted e in
-    let d = rw (w .before .before .before .before .delay .ensures) at (c .if2 .left) in
-    (sym r,
-     (rw r (ap₂ (λ j ys. putMid (place w) j (z .args .samples .now) ys) (part-long (place w) (z .args .s .width)) (m .cut-row .ensures) ∙ keeps (place w) (z .args .s .width) (z .args .row .now) (z .args .samples .now) (z .pre .1 .1 .0) (place-end w)),
-      (rw r (b .carry-all .ensures), rw (r, lt-ltb _ _ d) refl)))
+    let d = rw (w .before .before .before .before .delay .ensures) at (c .if2 .left) in (
+      sym r,
+      (
+        rw r (ap₂ (λ j ys. putMid (place w) j (z .args .samples .now) ys) (part-long (place w) (z .args .s .width)) (m .cut-row .ensures) ∙ keeps (place w) (z .args .s .width) (z .args .row .now) (z .args .samples .now) (z .pre .1 .1 .0) (place-end w)),
+        (rw r (b .carry-all .ensures), rw (r, lt-ltb _ _ d) refl),
+      ),
+    )
 
 pub arrive-spec : {M : Type 1} → statement M
 arrive-spec =

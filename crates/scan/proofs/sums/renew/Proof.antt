@@ -43,9 +43,13 @@ abbrev μ-loop : tie.MeasureT-loop
 loop-holds : tie.Need-loop-holds Inv-loop μ-loop
 unfolding all
 loop-holds c =
-    let a = c .before .before .before .before .args in
-    (search needs, pass-none (cut (a .sums .now) (a .off .now) (a .on .now) (a .bound) (a .q2)) (a .line .now), refl, c .before .before .before .before .pre .0 .0,
-    le-leb 0 (a .bound) (omega arith))
+    let a = c .before .before .before .before .args in (
+      search needs,
+      pass-none (cut (a .sums .now) (a .off .now) (a .on .now) (a .bound) (a .q2)) (a .line .now),
+      refl,
+      c .before .before .before .before .pre .0 .0,
+      le-leb 0 (a .bound) (omega arith),
+    )
 
 -- src/sums.rt:50:23
 mul-moved : tie.Need-mul-moved Inv-loop μ-loop
@@ -108,10 +112,14 @@ loop-again c =
     let t = c .before .before .before .before .before .loop-test .taken in
     let f = cut (a .sums .now) (a .off .now) (a .on .now) (a .bound) (a .q2) in
     let k = s .loop .c in
-    let m = c .before .moved .ensures in
-    (omega arith, rw (m, h .1, add-one k) (pass-set k f (a .line .now) 0 (omega arith)), length-set (s .loop .line) k _ ∙ h .2, h .3,
-    rw (c .larger .ensures, m, add-one k, all-suc)
-    (leb-max _ _ (a .bound) ∙ ap₂ _&&_ (h .4) (moved-within (getD (a .sums .now) k 0) (getD (a .off .now) k 0) (getD (a .on .now) k 0) (a .bound))))
+    let m = c .before .moved .ensures in (
+      omega arith,
+      rw (m, h .1, add-one k) (pass-set k f (a .line .now) 0 (omega arith)),
+      length-set (s .loop .line) k _ ∙ h .2,
+      h .3,
+      rw (c .larger .ensures, m, add-one k, all-suc)
+          (leb-max _ _ (a .bound) ∙ ap₂ _&&_ (h .4) (moved-within (getD (a .sums .now) k 0) (getD (a .off .now) k 0) (getD (a .on .now) k 0) (a .bound))),
+    )
 
 -- src/sums.rt:33:1
 same-length : tie.Need-same-length Inv-loop μ-loop
@@ -122,9 +130,10 @@ returns : tie.Need-returns Inv-loop μ-loop
 returns c =
     let a = c .before .before .before .before .before .before .args in
     let h = c .before .loop .inv in
-    let e : c .before .loop .c ≡ a .n = omega arith in
-    (h .4 ∙ ap (λ n. all n (moves (a .sums .now) (a .off .now) (a .on .now) (a .bound))) e,
-    h .1 ∙ ap (λ n. tab n (cut (a .sums .now) (a .off .now) (a .on .now) (a .bound) (a .q2)) ++ drop n (a .line .now)) e)
+    let e : c .before .loop .c ≡ a .n = omega arith in (
+      h .4 ∙ ap (λ n. all n (moves (a .sums .now) (a .off .now) (a .on .now) (a .bound))) e,
+      h .1 ∙ ap (λ n. tab n (cut (a .sums .now) (a .off .now) (a .on .now) (a .bound) (a .q2)) ++ drop n (a .line .now)) e,
+    )
 
 pub renew-spec : {M : Type 1} → statement M
 renew-spec =

@@ -194,9 +194,13 @@ loop-again c =
     let f = weighed (a .acc .now) (a .line .now) (a .base) (a .n) (a .q3) (a .q) (a .above) (a .below) in
     let h = s .loop .inv in
     let d = first-in (a .line .now) (a .base) (a .n) k (b .pre .0 .5) in
-    let e = slide (a .line .now) (a .base) (a .n) k in
-    (omega arith, rw (x, place f (a .acc .now) k (h .1), h .1, add-one k) (pass-set k f (a .acc .now) 0 (omega arith)),
-    length-set (s .loop .acc) k _ ∙ h .2, h .3, omega arith)
+    let e = slide (a .line .now) (a .base) (a .n) k in (
+      omega arith,
+      rw (x, place f (a .acc .now) k (h .1), h .1, add-one k) (pass-set k f (a .acc .now) 0 (omega arith)),
+      length-set (s .loop .acc) k _ ∙ h .2,
+      h .3,
+      omega arith,
+    )
 
 -- src/window.rt:26:1
 same-length : tie.Need-same-length Inv-loop μ-loop
