@@ -7,3 +7,4 @@ pub mod Carries
 pub mod Rectangles
 pub mod Taken
 pub mod States
+pub mod Rooms

@@ -1,0 +1,123 @@
+use Rattle.scan.proofs.Rooms.{Asked, asked, counts, room}
+use Rattle.scan.proofs.States.{agreed, lent-bounds}
+use Rattle.scan.specs.Calls.{rowAsked, rowAnswer}
+use Rattle.layout.specs.declared.Verdict.the-variants.{Accepted}
+use lib.ListN.{length}
+use mathlib.Core.Path.{_≡_, refl, sym, _∙_}
+use borrow.Author.Needs.{needs}
+use Rattle.scan.proofs.rows.row.Statement.{statement}
+use Rattle.scan.proofs.rows.row.Tie as tie
+use Rattle.scan.proofs.rows.row.Reads as reads
+use Rattle.scan.proofs.rows.row.Lts as lts
+use Rattle.scan.proofs.rows.arrive.Reads as arrive-reads
+use Rattle.scan.proofs.rows.row_asked.Reads as row-asked-reads
+use Rattle.scan.proofs.rows.row_taken.Reads as row-taken-reads
+
+abbrev start : tie.After-enum-told → tie.Start
+start c = c .before .before .before .before .before .before
+
+accepted : (c : tie.After-enum-told) → rowAsked (start c .args .s) (start c .args .row .now) (length (start c .args .samples .now)) (length (start c .args .sums .now)) (length (start c .args .out .now)) ≡ Accepted
+accepted c = sym (c .before .before .row-asked .ensures) ∙ c .enum-told .given .1
+
+known : (c : tie.After-enum-told) → Asked (start c .args .s) (length (start c .args .row .now)) (length (start c .args .samples .now)) (length (start c .args .sums .now)) (length (start c .args .out .now))
+known c = asked _ _ _ _ _ (accepted c)
+
+-- src/rows.rt:96:9
+row-asked-requires : tie.Need-row-asked-requires
+row-asked-requires c κs = search needs
+
+-- src/rows.rt:98:26
+enum-known-v : tie.Need-enum-known-v
+enum-known-v c = search needs
+
+-- src/rows.rt:103:36
+enum-told : tie.Need-enum-told
+enum-told c = search needs
+
+-- src/rows.rt:103:17
+arrive-requires : tie.Need-arrive-requires
+arrive-requires c κs = let p = c .before .before .before in
+    let a = start p .args in
+    let h = known p in
+    let n = counts (a .s) (h .state) in
+    ((agreed (a .s) (h .state) .table, n .0, n .1), (room (a .s) _ _ _ _ (h .state) (h .long) (h .lent), (h .long, lent-bounds _ _ _ _ _ (h .lent) .2)))
+
+-- src/rows.rt:105:34
+enum-known-w : tie.Need-enum-known-w
+enum-known-w c = search needs
+
+-- src/rows.rt:109:38
+enum-told-2 : tie.Need-enum-told-2
+enum-told-2 c = search needs
+
+-- src/rows.rt:109:38
+row-taken-requires : tie.Need-row-taken-requires
+row-taken-requires c κs = let p = c .before .before .before .before .before .before .before .before .before .before .before in counts (start p .args .s) (known p .state)
+
+-- src/rows.rt:89:1
+returns : tie.Need-returns
+unfolding rowAnswer
+returns c = let r = sym (c .before .before .before .row-asked .ensures) ∙ c .before .v .given .1 in
+    (rw r refl, (rw r refl, (rw r refl, (rw r refl, rw r refl))))
+
+-- src/rows.rt:89:1
+same-length : tie.Need-same-length
+same-length c = search needs
+
+-- src/rows.rt:89:1
+same-length-2 : tie.Need-same-length-2
+same-length-2 c = search needs
+
+-- src/rows.rt:89:1
+same-length-3 : tie.Need-same-length-3
+same-length-3 c = search needs
+
+-- src/rows.rt:89:1
+returns-2 : tie.Need-returns-2
+unfolding rowAnswer
+returns-2 c = let m = c .before .before .before .before .before .before .before .before in
+    let a = m .arrive .ensures in
+    let r = accepted (m .before .before .before .before) in
+    let q = sym (a .0) ∙ c .before .w .given .1 in
+    (rw (r, q) refl, (rw (r, q) refl, (rw r (a .1 .0), (rw r (a .1 .1 .0), rw r (a .1 .1 .1)))))
+
+-- src/rows.rt:89:1
+same-length-4 : tie.Need-same-length-4
+same-length-4 c = search needs
+
+-- src/rows.rt:89:1
+same-length-5 : tie.Need-same-length-5
+same-length-5 c = search needs
+
+-- src/rows.rt:89:1
+same-length-6 : tie.Need-same-length-6
+same-length-6 c = search needs
+
+-- src/rows.rt:89:1
+returns-3 : tie.Need-returns-3
+returns-3 c = let m = c .before .before .before .before .before .before .before .before in
+    let a = m .arrive .ensures in
+    let r = accepted (m .before .before .before .before) in
+    let q = sym (a .0) ∙ c .before .enum-told2 .given .1 in
+    (rw (r, q) (c .row-taken .ensures .0), (rw (r, q) (c .row-taken .ensures .1), (rw r (a .1 .0), (rw r (a .1 .1 .0), rw r (a .1 .1 .1)))))
+
+pub row-spec : {M : Type 1} → statement M
+row-spec =
+    tie.close
+    (tie.spec
+    row-asked-requires
+    enum-known-v
+    enum-told
+    arrive-requires
+    enum-known-w
+    enum-told-2
+    row-taken-requires
+    returns
+    same-length
+    same-length-2
+    same-length-3
+    returns-2
+    same-length-4
+    same-length-5
+    same-length-6
+    returns-3)

@@ -1,0 +1,248 @@
+use Rattle.arith.specs.Tab.{tab}
+use Prim.Native.Nat.{ℕ, _-_, _≤_}
+use mathlib.Core.Path.{_≡_, refl, sym, _∙_}
+use lib.ListN.{length, take, replicate}
+use Rattle.scan.proofs.Rooms.{counts, room, zeros, zeros-long, turned}
+use Rattle.scan.proofs.States.{agreed, lent-bounds}
+use Rattle.scan.proofs.Answered.{yes, no}
+use Rattle.scan.specs.Calls.{agrees, storesGood, stepAnswer}
+use Rattle.rule.proofs.Asked.{width-bounds}
+use Rattle.limits.proofs.Granted.{granted}
+use Rattle.layout.specs.Measure.{delayOf}
+use borrow.Author.Tests.{not-true, not-false, le-leb, lt-leb}
+use lib.Dec.{leb}
+use mathlib.Core.Bool.{true, false, _&&_}
+use borrow.Author.Needs.{needs}
+use Rattle.scan.proofs.steps.step.Statement.{statement}
+use Rattle.scan.proofs.steps.step.Tie as tie
+use Rattle.scan.proofs.steps.step.Reads as reads
+use Rattle.scan.proofs.steps.step.Lts as lts
+use Rattle.layout.proofs.delay.Reads as delay-reads
+use Rattle.scan.proofs.rows.arrive.Reads as arrive-reads
+use Rattle.scan.proofs.state.lent_good.Reads as lent-good-reads
+use Rattle.scan.proofs.state.state_good.Reads as state-good-reads
+use Rattle.scan.proofs.steps.step_taken.Reads as step-taken-reads
+use Rattle.scan.proofs.steps.stopped.Reads as stopped-reads
+
+-- a step of a closed scan
+record Shut (c : tie.Else2) : Type 0 where
+  state : agrees (c .before .before .before .before .before .before .args .s) ≡ true
+  closed : c .before .before .before .before .before .before .args .s .closed ≡ true
+
+shut : (c : tie.Else2) → Shut c
+shut c =
+    let u = c .before .before in
+    record { state = yes (u .before .state-good .ensures) (u .if1 .left); closed = not-false _ (c .if2 .left) }
+
+-- with steps to come
+abbrev start : tie.Else3 → tie.Start
+start c = c .before .before .before .before .before .before .before .before .before .before
+
+abbrev opened : tie.Else3 → tie.Else2
+opened c = c .before .before .before .before
+
+past : (c : tie.Else3) → leb (delayOf (start c .args .s .table)) (start c .args .s .steps) ≡ false
+past c = lt-leb _ _ (rw (c .before .before .delay .ensures) at (c .if3 .left))
+
+-- and stores long enough
+lent : (c : tie.Else4) → (storesGood (start (c .before .before) .args .s .width) (start (c .before .before) .args .s .table .count) (length (start (c .before .before) .args .samples .now)) (length (start (c .before .before) .args .sums .now)) && leb (start (c .before .before) .args .s .width) (length (start (c .before .before) .args .out .now))) ≡ true
+lent c = yes (c .before .lent-good .ensures) (c .if4 .left)
+
+narrow : (c : tie.Else4) → start (c .before .before) .args .s .width ≤ 1024
+narrow c = let p = c .before .before in width-bounds (agreed (start p .args .s) (shut (opened p) .state) .width) .1
+
+-- what arrives is a row of zeros
+line : (c : tie.Else4) → take {A = ℕ} (start (c .before .before) .args .s .width - 0) (replicate 1024 0) ≡ tab (start (c .before .before) .args .s .width) (λ k. 0)
+line c = zeros (start (c .before .before) .args .s .width) 1024 (narrow c)
+
+-- src/steps.rt:54:9
+state-good-requires : tie.Need-state-good-requires
+state-good-requires c κs = search needs
+
+-- src/steps.rt:55:9
+stopped-requires : tie.Need-stopped-requires
+stopped-requires c κs = search needs
+
+-- src/steps.rt:55:9
+returns : tie.Need-returns
+unfolding stepAnswer
+returns c = let u = c .before .before in
+    let a = u .before .before .before .args in
+    let e = turned (a .s) (a .samples .now) (a .sums .now) (length (a .out .now)) (no (u .state-good .ensures) (c .before .if1 .taken)) refl refl refl in
+    let r = c .stopped .ensures in
+    (rw e (r .0), (rw e (r .1), (rw e refl, (rw e refl, rw e refl))))
+
+-- src/steps.rt:58:9
+stopped-requires-2 : tie.Need-stopped-requires-2
+stopped-requires-2 c κs = search needs
+
+-- src/steps.rt:58:9
+returns-2 : tie.Need-returns-2
+unfolding stepAnswer
+returns-2 c = let u = c .before .before .before in
+    let a = u .before .before .before .before .args in
+    let f = not-true (a .s .closed) (c .before .if2 .taken) in
+    let e = turned (a .s) (a .samples .now) (a .sums .now) (length (a .out .now)) (yes (u .before .state-good .ensures) (u .if1 .left)) f refl refl in
+    let r = c .stopped2 .ensures in
+    (rw e (r .0), (rw e (r .1), (rw e refl, (rw e refl, rw e refl))))
+
+-- src/steps.rt:61:8
+delay-requires : tie.Need-delay-requires
+delay-requires c κs = search needs
+
+-- src/steps.rt:62:9
+stopped-requires-3 : tie.Need-stopped-requires-3
+stopped-requires-3 c κs = search needs
+
+-- src/steps.rt:62:9
+returns-3 : tie.Need-returns-3
+unfolding stepAnswer
+returns-3 c = let d = c .before .before .before in
+    let o = d .before .before in
+    let a = o .before .before .before .before .before .before .args in
+    let g = le-leb (delayOf (a .s .table)) (a .s .steps) (rw (d .delay .ensures) at (c .before .if3 .taken)) in
+    let e = turned (a .s) (a .samples .now) (a .sums .now) (length (a .out .now)) (shut o .state) (shut o .closed) g refl in
+    let r = c .stopped3 .ensures in
+    (rw e (r .0), (rw e (r .1), (rw e refl, (rw e refl, rw e refl))))
+
+-- src/steps.rt:65:9
+lent-good-requires : tie.Need-lent-good-requires
+lent-good-requires c κs = let a = agreed (start c .args .s) (shut (opened c) .state) in
+    (width-bounds (a .width) .1, granted _ (a .table) .few)
+
+-- src/steps.rt:66:9
+stopped-requires-4 : tie.Need-stopped-requires-4
+stopped-requires-4 c κs = search needs
+
+-- src/steps.rt:66:9
+returns-4 : tie.Need-returns-4
+unfolding stepAnswer
+returns-4 c = let p = c .before .before .before in
+    let o = opened p in
+    let a = start p .args in
+    let l = no (c .before .before .lent-good .ensures) (c .before .if4 .taken) in
+    let e = turned (a .s) (a .samples .now) (a .sums .now) (length (a .out .now)) (shut o .state) (shut o .closed) (past p) l in
+    let r = c .stopped4 .ensures in
+    (rw e (r .0), (rw e (r .1), (rw e refl, (rw e refl, rw e refl))))
+
+-- src/steps.rt:69:23
+sub-arrive : tie.Need-sub-arrive
+sub-arrive c = search needs
+
+-- src/steps.rt:69:23
+part-arrive-start : tie.Need-part-arrive-start
+part-arrive-start c = search needs
+
+-- src/steps.rt:69:23
+part-arrive-end : tie.Need-part-arrive-end
+part-arrive-end c = let w = narrow (c .before) in search (needs, w)
+
+-- src/steps.rt:69:9
+arrive-requires : tie.Need-arrive-requires
+arrive-requires c κs = let q = c .before .before .before .before .before in
+    let p = q .before .before in
+    let a = start p .args in
+    let e = shut (opened p) .state in
+    let n = counts (a .s) e in
+    let z = zeros-long (a .s .width) 1024 (narrow q) in
+    ((agreed (a .s) e .table, n .0, n .1), (room (a .s) _ _ _ _ e z (lent q), (z, lent-bounds _ _ _ _ _ (lent q) .2)))
+
+-- src/steps.rt:71:26
+enum-known-v : tie.Need-enum-known-v
+enum-known-v c = search needs
+
+-- src/steps.rt:71:44
+stopped-requires-5 : tie.Need-stopped-requires-5
+stopped-requires-5 c κs = search needs
+
+-- src/steps.rt:72:30
+enum-told : tie.Need-enum-told
+enum-told c = search needs
+
+-- src/steps.rt:72:30
+step-taken-requires : tie.Need-step-taken-requires
+step-taken-requires c κs = let p = c .before .before .before .before .before .before .before .before .before .before .before .before .before .before .before in
+    counts (start p .args .s) (shut (opened p) .state)
+
+-- src/steps.rt:47:1
+same-length : tie.Need-same-length
+same-length c = search needs
+
+-- src/steps.rt:47:1
+same-length-2 : tie.Need-same-length-2
+same-length-2 c = search needs
+
+-- src/steps.rt:47:1
+same-length-3 : tie.Need-same-length-3
+same-length-3 c = search needs
+
+-- src/steps.rt:47:1
+returns-5 : tie.Need-returns-5
+unfolding stepAnswer
+returns-5 c = let m = c .before .before .before .before .before .before .before .before .before in
+    let q = m .before .before .before .before .before .before in
+    let p = q .before .before in
+    let o = opened p in
+    let a = start p .args in
+    let t = rw (line q) at (m .arrive .ensures) in
+    let e = turned (a .s) (a .samples .now) (a .sums .now) (length (a .out .now)) (shut o .state) (shut o .closed) (past p) (lent q) in
+    let v = sym (t .0) ∙ c .before .before .v .given .1 in
+    let r = c .stopped5 .ensures in
+    (rw (e, v) (r .0), (rw (e, v) (r .1), (rw (e, v) (rw v at (t .1 .0)), (rw (e, v) (rw v at (t .1 .1 .0)), rw (e, v) (rw v at (t .1 .1 .1))))))
+
+-- src/steps.rt:47:1
+same-length-4 : tie.Need-same-length-4
+same-length-4 c = search needs
+
+-- src/steps.rt:47:1
+same-length-5 : tie.Need-same-length-5
+same-length-5 c = search needs
+
+-- src/steps.rt:47:1
+same-length-6 : tie.Need-same-length-6
+same-length-6 c = search needs
+
+-- src/steps.rt:47:1
+returns-6 : tie.Need-returns-6
+returns-6 c = let m = c .before .before .before .before .before .before .before .before in
+    let q = m .before .before .before .before .before .before in
+    let p = q .before .before in
+    let o = opened p in
+    let a = start p .args in
+    let t = rw (line q) at (m .arrive .ensures) in
+    let e = turned (a .s) (a .samples .now) (a .sums .now) (length (a .out .now)) (shut o .state) (shut o .closed) (past p) (lent q) in
+    let v = sym (t .0) ∙ c .before .enum-told .given .1 in
+    let r = c .step-taken .ensures in
+    (rw (e, v) (r .0), (rw (e, v) (r .1), (rw (e, v) (rw v at (t .1 .0)), (rw (e, v) (rw v at (t .1 .1 .0)), rw (e, v) (rw v at (t .1 .1 .1))))))
+
+pub step-spec : {M : Type 1} → statement M
+step-spec =
+    tie.close
+    (tie.spec
+    state-good-requires
+    stopped-requires
+    returns
+    stopped-requires-2
+    returns-2
+    delay-requires
+    stopped-requires-3
+    returns-3
+    lent-good-requires
+    stopped-requires-4
+    returns-4
+    sub-arrive
+    part-arrive-start
+    part-arrive-end
+    arrive-requires
+    enum-known-v
+    stopped-requires-5
+    enum-told
+    step-taken-requires
+    same-length
+    same-length-2
+    same-length-3
+    returns-5
+    same-length-4
+    same-length-5
+    same-length-6
+    returns-6)
