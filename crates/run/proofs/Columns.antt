@@ -1,0 +1,59 @@
+-- Column sums move on by a row: the leaving sample off, the entering one on.
+-- Assumes nothing.
+use Prim.Native.Nat.{ℕ, suc, _+_, _-_, _*_, _/_, _^_, _≤_, _<_}
+use native.Mathlib.Omega.{arith}
+use mathlib.Core.Path.{_≡_, refl, sym, ap, _∙_}
+use lib.IntN.{ℤ, pos, negsuc, subℕ, _+ℤ_, _-ℤ_}
+use Rattle.arith.specs.Sum.{sum}
+use Rattle.arith.specs.Part.{posPart, negPart}
+use Rattle.arith.specs.Diff.{Diff}
+use Rattle.arith.proofs.Sums.{sum-cong, sum-suc, sum-first}
+use Rattle.arith.proofs.Ints.{diff-parts, diff-add, diff-minus, diff-pos, diff-sub, diff-eq}
+use Rattle.layout.specs.declared.Rect.{Rect}
+use Rattle.layout.specs.declared.Table.{Table}
+use Rattle.layout.specs.Measure.{rowsOf, colsOf, delayOf}
+use Rattle.limits.proofs.Bounds.{Edges, extent, RectBounds}
+use Rattle.rule.specs.Sums.{Scan, covered, columnSum}
+
+-- a row further down
+pub covered-next : (r trail : ℤ) (i : ℕ) → covered (r +ℤ pos 1) trail i ≡ covered r trail (suc i)
+unfolding covered
+covered-next r trail i =
+    let p = diff-parts r in
+    let q = diff-parts trail in
+    diff-eq (diff-add (diff-add (diff-add p (diff-pos 1)) q) (diff-pos (suc i))) (diff-add (diff-add p q) (diff-pos (suc (suc i)))) (omega arith)
+
+-- the sum of the next row, with the leaving sample, is the sum of this one with the entering sample
+pub slide :
+    (t : Table) (x : Scan) (d : Rect) (r j : ℤ)
+    → columnSum t x d r j + x (covered r (d .trailrow) (rowsOf d)) j / 2 ^ t .q1
+    ≡ x (covered r (d .trailrow) 0) j / 2 ^ t .q1 + columnSum t x d (r +ℤ pos 1) j
+unfolding columnSum
+slide t x d r j =
+    let g : ℕ → ℕ = λ i. x (covered r (d .trailrow) i) j / 2 ^ t .q1 in
+    let n = sum-cong (rowsOf d) {f = λ i. x (covered (r +ℤ pos 1) (d .trailrow) i) j / 2 ^ t .q1} {g = λ i. g (suc i)} (λ i l. ap (λ z. x z j / 2 ^ t .q1) (covered-next r (d .trailrow) i)) in
+    let a = sum-first (rowsOf d) g in
+    let b = sum-suc (rowsOf d) g in
+    omega arith
+
+-- ---- the rows that the edges reach at arrival a, from the sum of the arrival before
+
+pub leaving-row : (a delay : ℕ) (trail : ℤ) → covered (subℕ a (suc delay)) trail 0 ≡ (pos a -ℤ pos delay) +ℤ trail
+unfolding covered
+leaving-row a delay trail =
+    let q = diff-parts trail in
+    diff-eq (diff-add (diff-add (diff-sub a (suc delay)) q) (diff-pos 1)) (diff-add (diff-minus (diff-pos a) (diff-pos delay)) q) (omega arith)
+
+pub entering-row : (a delay : ℕ) (d : Rect) → RectBounds d → covered (subℕ a (suc delay)) (d .trailrow) (rowsOf d) ≡ (pos a -ℤ pos delay) +ℤ d .leadrow
+unfolding covered rowsOf
+entering-row a delay d b =
+    let e = extent (b .row) in
+    diff-eq (diff-add (diff-add (diff-sub a (suc delay)) (b .row .trail-is)) (diff-pos (suc (posPart (d .leadrow -ℤ d .trailrow)))))
+    (diff-add (diff-minus (diff-pos a) (diff-pos delay)) (b .row .lead-is)) (omega arith)
+
+-- the row that is due at arrival a, and the one before it
+pub due-row : (a delay : ℕ) → subℕ a (suc delay) +ℤ pos 1 ≡ subℕ a delay
+due-row a delay = diff-eq (diff-add (diff-sub a (suc delay)) (diff-pos 1)) (diff-sub a delay) (omega arith)
+
+pub next-row : (a delay : ℕ) → subℕ (a + 1) (suc delay) ≡ subℕ a delay
+next-row a delay = diff-eq (diff-sub (a + 1) (suc delay)) (diff-sub a delay) (omega arith)

@@ -1,0 +1,113 @@
+-- The rows of a scan and the flat list of them.
+-- Assumes nothing.
+use Prim.Native.Nat.{ℕ, zero, suc, _+_, _-_, _*_, _^_, _≤_, _<_, zero-le}
+use native.Mathlib.Nat.{not-suc-le-zero, mul-le-mul-right}
+use native.Mathlib.Omega.{arith}
+use mathlib.Core.Path.{_≡_, refl, sym, ap, _∙_, subst}
+use mathlib.Core.Bool.{Bool, true, false, not, cond, _&&_}
+use mathlib.Core.List.{List, [], _∷_, _++_, append-assoc}
+use lib.Dec.{T, leb, ltb, eqb, eqb→eq, leb→le, le→leb, ltb→lt, nltb→le}
+use lib.IntN.{ℤ, pos, negsuc}
+use lib.ListN.{length, getD, length-append, List·getD-append, List·getD-eq-default}
+use lib.Seq.{getD-append-add}
+use mir.Facts.{and-yes}
+use borrow.Author.Tests.{lt-ltb, le-ltb}
+use Rattle.arith.specs.All.{all}
+use Rattle.arith.proofs.Alls.{all-at, all-of}
+use Rattle.rule.proofs.Asked.{has-bits}
+use Rattle.rule.specs.Questions.{atMost}
+use Rattle.rule.specs.Sums.{HasBits, sampleAt}
+use Rattle.run.specs.Runs.{flat, goodRows}
+use Rattle.run.proofs.Arrives.{Lies}
+
+-- rows that are good
+pub record Good (l b : ℕ) (row : List ℕ) (rows : List (List ℕ)) : Type 0 where
+  pub long : length row ≡ l
+  pub small : T (all (length row) (atMost (2 ^ b - 1) row))
+  pub rest : T (goodRows l b rows)
+
+pub good : (l b : ℕ) (row : List ℕ) (rows : List (List ℕ)) → T (goodRows l b (row ∷ rows)) → Good l b row rows
+unfolding goodRows
+good l b row rows h =
+    let a = and-yes (eqb (length row) l) _ h in
+    let c = and-yes (all (length row) (atMost (2 ^ b - 1) row)) (goodRows l b rows) (a .1) in
+    record { long = eqb→eq (length row) l (a .0); small = c .0; rest = c .1 }
+
+pub flat-length : (l b : ℕ) (rows : List (List ℕ)) → T (goodRows l b rows) → length (flat rows) ≡ length rows * l
+unfolding flat
+flat-length l b [] h = omega arith
+flat-length l b (row ∷ rows) h =
+    let g = good l b row rows h in
+    let e = length-append row (flat rows) in
+    let n = g .long in
+    let m = flat-length l b rows (g .rest) in
+    omega arith
+
+-- row i stands in the flat list from place i·l on
+pub flat-at :
+    (l b : ℕ) (rows : List (List ℕ)) → T (goodRows l b rows) → (i c : ℕ) → i < length rows → c < l
+    → getD (getD rows i []) c 0 ≡ getD (flat rows) (i * l + c) 0
+unfolding flat
+flat-at l b [] h i c p q = absurd (not-suc-le-zero p)
+flat-at l b (row ∷ rows) h zero c p q =
+    let n = good l b row rows h .long in
+    let e : 0 * l + c ≡ c = omega arith in
+    sym (ap (λ k. getD (row ++ flat rows) k 0) e ∙ List·getD-append row (flat rows) 0 c (omega arith))
+flat-at l b (row ∷ rows) h (suc i) c p q =
+    let g = good l b row rows h in
+    let n = g .long in
+    let e : suc i * l + c ≡ length row + (i * l + c) = omega arith in
+    flat-at l b rows (g .rest) i c (omega arith) q
+    ∙ sym (ap (λ k. getD (row ++ flat rows) k 0) e ∙ getD-append-add row (flat rows) (i * l + c) 0)
+
+-- every sample of the flat list has b bits
+flat-small : (l b : ℕ) (rows : List (List ℕ)) → T (goodRows l b rows) → (k : ℕ) → getD (flat rows) k 0 ≤ 2 ^ b - 1
+unfolding flat
+flat-small l b [] h k = zero-le
+flat-small l b (row ∷ rows) h k = go (flat-small l b rows (g .rest)) (ltb k (length row)) (ltb→lt k (length row)) (nltb→le k (length row))
+  where
+    g : Good l b row rows
+    g = good l b row rows h
+
+    go : ((k : ℕ) → getD (flat rows) k 0 ≤ 2 ^ b - 1) → (q : Bool) → (T q → k < length row) → (T (not q) → length row ≤ k) → getD (row ++ flat rows) k 0 ≤ 2 ^ b - 1
+    go more true y n =
+        rw (List·getD-append row (flat rows) 0 k (y tt)) (leb→le (getD row k 0) (2 ^ b - 1) (all-at (length row) (atMost (2 ^ b - 1) row) (g .small) k (y tt)))
+    go more false y n =
+        let m = n tt in
+        let e : k ≡ length row + (k - length row) = omega arith in
+        subst (λ i. getD (row ++ flat rows) i 0 ≤ 2 ^ b - 1) (sym e) (rw (getD-append-add row (flat rows) (k - length row) 0) (more (k - length row)))
+
+pub flat-bits : (l b : ℕ) (rows : List (List ℕ)) → T (goodRows l b rows) → T (all (length (flat rows)) (atMost (2 ^ b - 1) (flat rows)))
+flat-bits l b rows h = all-of (length (flat rows)) (atMost (2 ^ b - 1) (flat rows)) (λ k p. le→leb (getD (flat rows) k 0) (2 ^ b - 1) (flat-small l b rows h k))
+
+-- the scan of good rows
+pub rows-lie : (l b : ℕ) (rows : List (List ℕ)) → T (goodRows l b rows) → Lies l b (sampleAt l (flat rows))
+unfolding sampleAt
+rows-lie l b rows h =
+    record { above = λ i j. refl; left = left; right = right; bits = has-bits b l (flat rows) (flat-bits l b rows h) }
+  where
+    left : (i : ℤ) (j : ℕ) → sampleAt l (flat rows) i (negsuc j) ≡ 0
+    left (pos i) j = refl
+    left (negsuc i) j = refl
+
+    right : (i : ℤ) (j : ℕ) → l ≤ j → sampleAt l (flat rows) i (pos j) ≡ 0
+    right (pos i) j q = rw (le-ltb j l q) refl
+    right (negsuc i) j q = refl
+
+-- row i of the scan, and darkness below the last row
+pub row-at :
+    (l b : ℕ) (rows : List (List ℕ)) → T (goodRows l b rows) → (i c : ℕ) → i < length rows → c < l
+    → getD (getD rows i []) c 0 ≡ sampleAt l (flat rows) (pos i) (pos c)
+unfolding sampleAt
+row-at l b rows h i c p q = rw (lt-ltb c l q) (flat-at l b rows h i c p q)
+
+pub below : (l b : ℕ) (rows : List (List ℕ)) → T (goodRows l b rows) → (i c : ℕ) → length rows ≤ i → sampleAt l (flat rows) (pos i) (pos c) ≡ 0
+unfolding sampleAt
+below l b rows h i c p = go (ltb c l)
+  where
+    go : (q : Bool) → cond q (getD (flat rows) (i * l + c) 0) 0 ≡ 0
+    go true =
+        let n = flat-length l b rows h in
+        let m = mul-le-mul-right l p in
+        List·getD-eq-default (flat rows) 0 {n = i * l + c} (omega arith)
+    go false = refl

@@ -1,0 +1,95 @@
+-- The stores of a run, from one arrival to the next.
+-- Assumes nothing.
+use Prim.Native.Nat.{ℕ, zero, suc, _+_, _-_, _*_, _/_, _%_, _^_, _≤_, _<_}
+use native.Mathlib.Nat.{mod-lt, mul-le-mul-right, le-trans, le-of-eq}
+use native.Mathlib.Omega.{arith}
+use mathlib.Core.Path.{_≡_, refl, sym, ap, _∙_, subst}
+use mathlib.Core.Bool.{Bool, true, false, not, cond}
+use mathlib.Core.List.{List, _++_}
+use lib.Dec.{ltb}
+use lib.IntN.{ℤ, pos, subℕ}
+use lib.ListN.{length, getD, take, drop, length-append, length-drop}
+use lib.Seq.{length-take-le, take-at}
+use Rattle.arith.specs.Tab.{tab, grid, paste}
+use Rattle.arith.proofs.Passes.{length-grid, pass-length}
+use Rattle.arith.proofs.Tabs.{length-tab, tab-cong}
+use Rattle.arith.proofs.Ints.{sub-high}
+use Rattle.layout.specs.declared.Table.{Table}
+use Rattle.layout.specs.declared.Verdict.the-variants.{Accepted}
+use Rattle.layout.specs.Contents.{rect}
+use Rattle.layout.specs.Measure.{delayOf}
+use Rattle.limits.specs.Limits.{acceptable}
+use Rattle.rule.specs.Sums.{Scan, columnSum}
+use Rattle.rule.specs.Pixels.{pixelOf}
+use borrow.Author.Tests.{lt-ltb, le-ltb}
+use Rattle.scan.specs.Arrivals.{Arrival, stored, newSum, arrivalSays, pixelAt, samplesAfter, sumsAfter, outputAfter}
+use Rattle.run.proofs.Kept.{Kept, kept-next}
+use Rattle.run.proofs.Arrives.{Lies, Finds, pixel-is, says-accepted, sums-next}
+
+-- Q4: the stores before arrival a of a run over x
+pub record Stores (t : Table) (l : ℕ) (x : Scan) (a : ℕ) (samples sums : List ℕ) : Type 0 where
+  pub samples-long : 32 * l ≤ length samples
+  pub sums-long : t .count * l ≤ length sums
+  pub kept : Kept l x a samples
+  pub carried :
+      (k c : ℕ) → k < t .count → c < l → getD sums (k * l + c) 0 ≡ columnSum t x (rect t k) (subℕ a (suc (delayOf t))) (pos c)
+
+module _ (t : Table) (l : ℕ) (x : Scan) (a : ℕ) (row samples sums : List ℕ) where
+  -- what arrives
+  abbrev pub v : Arrival
+  v = record { table = t; width = l; number = a; row = row; samples = samples; sums = sums }
+
+  module _ (ok : acceptable t ≡ true) (lies : Lies l (t .b) x) (is : (c : ℕ) → c < l → getD row c 0 ≡ x (pos a) (pos c)) (st : Stores t l x a samples sums) where
+    pub finds : Finds x v
+    unfolding stored
+    finds = record { table = ok; lies = lies; row = is; kept = st .kept; sums = st .carried }
+
+    pub accepted : arrivalSays v ≡ Accepted
+    accepted = says-accepted x v finds
+
+    samples-same : length row ≡ l → length (samplesAfter v) ≡ length samples
+    unfolding samplesAfter paste
+    samples-same n =
+        let b : a % 32 ≤ 31 = let m = mod-lt a {m = 32} in omega arith in
+        let p = mul-le-mul-right l b in
+        let h = st .samples-long in
+        let e = length-take-le (a % 32 * l) samples (omega arith) in
+        let i = length-append (take (a % 32 * l) samples ++ row) (drop (a % 32 * l + length row) samples) in
+        let j = length-append (take (a % 32 * l) samples) row in
+        let k = length-drop (a % 32 * l + length row) samples in
+        omega arith
+
+    sums-same : length (sumsAfter v) ≡ length sums
+    unfolding sumsAfter
+    sums-same =
+        let h = st .sums-long in
+        let i = length-append (grid (t .count) l (newSum v)) (drop (t .count * l) sums) in
+        let j = length-grid (t .count) l (newSum v) in
+        let k = length-drop (t .count * l) sums in
+        omega arith
+
+    -- the stores before the next arrival
+    pub stores-next : length row ≡ l → Stores t l x (a + 1) (samplesAfter v) (sumsAfter v)
+    unfolding samplesAfter
+    stores-next n =
+        let h = st .samples-long in
+        let i = st .sums-long in
+        let p = samples-same n in
+        let q = sums-same in
+        record {
+          samples-long = omega arith;
+          sums-long = omega arith;
+          kept = kept-next l x a row samples n h is (st .kept);
+          carried = λ k c lk lc. sums-next x v finds k c lk lc;
+        }
+
+    -- the output while waiting, and when a row is due
+    pub output-waits : a < delayOf t → (out : List ℤ) → outputAfter v out ≡ out
+    unfolding outputAfter
+    output-waits h out = rw (lt-ltb a (delayOf t) h) refl
+
+    pub output-due : delayOf t ≤ a → (out : List ℤ) → outputAfter v out ≡ tab l (λ c. pixelOf t x (pos (a - delayOf t)) (pos c)) ++ drop l out
+    unfolding outputAfter
+    output-due h out =
+        rw (le-ltb a (delayOf t) h)
+        (ap (λ ys. ys ++ drop l out) (tab-cong l (λ c i. pixel-is x v finds c ∙ ap (λ r. pixelOf t x r (pos c)) (sub-high a (delayOf t) h))))
