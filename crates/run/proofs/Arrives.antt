@@ -39,7 +39,8 @@ use Rattle.scan.specs.Arrivals.{Arrival, arrivalSays, sumsAfter, rowAt, edgeRow
 use Rattle.rule.proofs.Depends.{lead-most}
 use Rattle.scan.proofs.Delays.{delay-most}
 use Rattle.run.proofs.Columns.{slide, leaving-row, entering-row, due-row, next-row}
-use Rattle.run.proofs.Kept.{Kept, row-is}
+use Rattle.run.specs.Holds.{Kept}
+use Rattle.run.proofs.Kept.{row-is}
 
 -- a scan of rows of l samples of b bits
 pub record Lies (l b : ℕ) (x : Scan) : Type 0 where

@@ -30,7 +30,8 @@ use Rattle.scan.specs.Arrivals.{Arrival, arrivalSays, pixelAt, samplesAfter, su
 use Rattle.scan.specs.Calls.{by, agrees, storesGood, arrivalOf, rowAsked, rowSays, rowAnswer, rowIn, closeSays, shut, turn, byTurn, done as allOut, taken, closingOf, stepTurn, stepAnswer, stepIn}
 use Rattle.run.specs.Runs.{World, Call, rowCall, closeCall, stepCall, Reply, filtered, waiting, done, closed, rowReply, stepReply, after, reply, due}
 use Rattle.run.proofs.Arrives.{Lies}
-use Rattle.run.proofs.Stores.{Stores, accepted, stores-next, output-waits, output-due}
+use Rattle.run.specs.Holds.{Stores}
+use Rattle.run.proofs.Stores.{accepted, stores-next, output-waits, output-due}
 
 -- the state after n rows and m steps
 abbrev pub state : Table → (l n m : ℕ) → Bool → Engine

@@ -16,6 +16,7 @@ use lib.Seq.{getD-append-add, getD-take, getD-drop, length-take-le}
 use Rattle.arith.specs.Tab.{paste}
 use Rattle.rule.specs.Sums.{Scan}
 use Rattle.scan.specs.Arrivals.{rowAt}
+use Rattle.run.specs.Holds.{Kept}
 
 -- a list pasted over another: before it, in it, and after it
 module _ (p : ℕ) (xs ys : List ℕ) (h : p + length xs ≤ length ys) where
@@ -48,10 +49,6 @@ module _ (p : ℕ) (xs ys : List ℕ) (h : p + length xs ≤ length ys) where
       let m : p + length xs + (k - (p + length xs)) ≡ k = omega arith in
       ap (λ i. getD (paste p xs ys) i 0) e ∙ getD-append-add (take p ys ++ xs) (drop (p + length xs) ys) (k - (p + length xs)) 0
       ∙ getD-drop (p + length xs) ys (k - (p + length xs)) 0 ∙ ap (λ i. getD ys i 0) m
-
--- the store holds the last 32 of the arrivals before a
-pub Kept : (l : ℕ) → Scan → (a : ℕ) → List ℕ → Type 0
-Kept l x a samples = (e c : ℕ) → e < a → a ≤ e + 32 → c < l → getD samples (e % 32 * l + c) 0 ≡ x (pos e) (pos c)
 
 pub kept-none : (l : ℕ) (x : Scan) (samples : List ℕ) → Kept l x 0 samples
 unfolding Kept

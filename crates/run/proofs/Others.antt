@@ -69,6 +69,17 @@ rows-full t l x ok wide n e w r row =
     (rw (ok, wide, le-leb n 65535 (le-of-eq e), le-leb 0 (delayOf t) zero-le, le-ltb n 65535 (le-of-eq (sym e))) refl) in
     rw s refl
 
+-- a closed scan takes none
+pub rows-shut :
+    (t : Table) (l : ℕ) (x : Scan) → acceptable t ≡ true → widthGood l ≡ true → (n m : ℕ) → n ≤ 65535 → m ≤ delayOf t → (w : World) → Ready t l x n m true w
+    → (row : List ℕ) → reply w (rowCall row) ≡ refused 15 0
+unfolding reply rowAsked agrees rowAnswer
+rows-shut t l x ok wide n m few most w r row =
+    let s : rowAsked (w .scan) row (length (w .samples)) (length (w .sums)) (length (w .out)) ≡ Refused 15 0 =
+    subst (λ s. rowAsked s row (length (w .samples)) (length (w .sums)) (length (w .out)) ≡ Refused 15 0) (sym (r .scan))
+    (rw (ok, wide, le-leb n 65535 few, le-leb m (delayOf t) most) refl) in
+    rw s refl
+
 -- W3: the carried column sum after each of its two steps fits its word
 pub record Words (x : Scan) (v : Arrival) (k c : ℕ) : Type 0 where
   pub taken-off : stored v k c - leaving v k c < 2 ^ columnWord (v .table) (rect (v .table) k)

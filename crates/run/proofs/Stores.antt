@@ -23,16 +23,9 @@ use Rattle.rule.specs.Sums.{Scan, columnSum}
 use Rattle.rule.specs.Pixels.{pixelOf}
 use borrow.Author.Tests.{lt-ltb, le-ltb}
 use Rattle.scan.specs.Arrivals.{Arrival, stored, newSum, arrivalSays, pixelAt, samplesAfter, sumsAfter, outputAfter}
-use Rattle.run.proofs.Kept.{Kept, kept-next}
+use Rattle.run.specs.Holds.{Kept, Stores}
+use Rattle.run.proofs.Kept.{kept-next}
 use Rattle.run.proofs.Arrives.{Lies, Finds, pixel-is, says-accepted, sums-next}
-
--- Q4: the stores before arrival a of a run over x
-pub record Stores (t : Table) (l : ℕ) (x : Scan) (a : ℕ) (samples sums : List ℕ) : Type 0 where
-  pub samples-long : 32 * l ≤ length samples
-  pub sums-long : t .count * l ≤ length sums
-  pub kept : Kept l x a samples
-  pub carried :
-      (k c : ℕ) → k < t .count → c < l → getD sums (k * l + c) 0 ≡ columnSum t x (rect t k) (subℕ a (suc (delayOf t))) (pos c)
 
 module _ (t : Table) (l : ℕ) (x : Scan) (a : ℕ) (row samples sums : List ℕ) where
   -- what arrives

@@ -28,10 +28,10 @@ use Rattle.run.specs.Runs.{World, Call, rowCall, closeCall, stepCall, Re
 use Rattle.pixel.specs.declared.Found.the-variants.{Pixel}
 use Rattle.pixel.specs.Call.{pixelAnswer}
 use Rattle.rule.specs.Pixels.{pixelOf}
-use Rattle.run.proofs.Others.{pixel-accepts, rows-full}
+use Rattle.run.proofs.Others.{pixel-accepts, rows-full, rows-shut}
 use Rattle.run.proofs.Kept.{kept-none}
 use Rattle.run.proofs.Arrives.{Lies}
-use Rattle.run.proofs.Stores.{Stores}
+use Rattle.run.specs.Holds.{Runs, Stores}
 use Rattle.run.proofs.Calls.{Ready, row-next, row-reply, close-next, close-reply, done-next, done-reply, step-next, step-reply}
 use Rattle.run.proofs.Rows.{Good, good, rows-lie, row-at, below}
 
@@ -136,15 +136,6 @@ started t l x samples sums out ok lies st long =
     dark (negsuc m) j h = lies .above m j
     dark (pos e) j h = absurd (let p = le-diff (diff-pos e) (diff-add (diff-sub 0 (suc (delayOf t))) (diff-pos (delayOf t))) h in omega arith)
 
--- the hypotheses of a run
-pub record Runs (t : Table) (l : ℕ) (samples sums : List ℕ) (out : List ℤ) (rows : List (List ℕ)) : Type 0 where
-  pub table : acceptable t ≡ true
-  pub width : widthGood l ≡ true
-  pub stores : storesGood l (t .count) (length samples) (length sums) ≡ true
-  pub output : l ≤ length out
-  pub good-rows : T (goodRows l (t .b) rows)
-  pub few : length rows ≤ 65535
-
 plain : (n : ℕ) → n ≡ n + 0
 plain n = omega arith
 
@@ -206,6 +197,23 @@ module _ (t : Table) (l : ℕ) (samples sums : List ℕ) (out : List ℤ) (rows 
   steps-leave k q =
       rw (rows-in .ends (closeCall ∷ replicate k stepCall), stepped k q .ends)
       (subst (λ j. Stores t l x (length rows + j) (stepped k q .world .samples) (stepped k q .world .sums)) (sym (none k)) (stepped k q .ready .stores))
+
+  -- Q1: after closing, further rows are refused with 15; after D steps a further one changes nothing
+  pub closed-refuses : (k : ℕ) → k ≤ delayOf t → (row : List ℕ)
+      → reply (ended (begun t l samples sums out) (rowCalls rows ++ (closeCall ∷ replicate k stepCall))) (rowCall row) ≡ refused 15 0
+  unfolding ended
+  closed-refuses k q row =
+      rw (rows-in .ends (closeCall ∷ replicate k stepCall), stepped k q .ends)
+      (rows-shut t l x (h .table) (h .width) (length rows) (0 + k) (h .few) (omega arith) (stepped k q .world) (stepped k q .ready) row)
+
+  pub done-changes-nothing :
+      after (ended (begun t l samples sums out) (rowCalls rows ++ (closeCall ∷ replicate (delayOf t) stepCall))) stepCall
+      ≡ ended (begun t l samples sums out) (rowCalls rows ++ (closeCall ∷ replicate (delayOf t) stepCall))
+  unfolding ended
+  done-changes-nothing =
+      let b = stepped (delayOf t) (omega arith) in
+      rw (rows-in .ends (closeCall ∷ replicate (delayOf t) stepCall), b .ends)
+      (done-next t l x (h .table) (h .width) lies (length rows) (0 + delayOf t) (b .world) (b .ready) (h .few) (omega arith))
 
   -- Q7: the one-pixel call on the whole scan answers the pixel that came out
   pub calls-agree : (r c : ℕ) → r < length rows → c < l → pixelAnswer t l (flat rows) r c ≡ Pixel (pixelOf t x (pos r) (pos c))

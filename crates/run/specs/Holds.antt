@@ -1,0 +1,39 @@
+-- What the theorem on runs takes, and what the stores of a run hold.
+-- Assumes nothing.
+use Prim.Native.Nat.{ℕ, suc, _+_, _*_, _%_, _≤_, _<_}
+use mathlib.Core.Path.{_≡_}
+use mathlib.Core.Bool.{true}
+use mathlib.Core.List.{List}
+use lib.Dec.{T}
+use lib.IntN.{ℤ, pos, subℕ}
+use lib.ListN.{length, getD}
+use Rattle.layout.specs.declared.Table.{Table}
+use Rattle.layout.specs.Contents.{rect}
+use Rattle.layout.specs.Measure.{delayOf}
+use Rattle.limits.specs.Limits.{acceptable}
+use Rattle.rule.specs.Questions.{widthGood}
+use Rattle.rule.specs.Sums.{Scan, columnSum}
+use Rattle.scan.specs.Calls.{storesGood}
+use Rattle.run.specs.Runs.{goodRows}
+
+-- a table that loading accepts, a width from 1 to 1,024, stores and an output long enough, whatever they hold, and at most 65,535 rows of L
+-- samples of b bits
+pub record Runs (t : Table) (l : ℕ) (samples sums : List ℕ) (out : List ℤ) (rows : List (List ℕ)) : Type 0 where
+  pub table : acceptable t ≡ true
+  pub width : widthGood l ≡ true
+  pub stores : storesGood l (t .count) (length samples) (length sums) ≡ true
+  pub output : l ≤ length out
+  pub good-rows : T (goodRows l (t .b) rows)
+  pub few : length rows ≤ 65535
+
+-- the sample store holds each of the last 32 of a arrivals from its place on
+unfoldable pub Kept : (l : ℕ) → Scan → (a : ℕ) → List ℕ → Type 0
+Kept l x a samples = (e c : ℕ) → e < a → a ≤ e + 32 → c < l → getD samples (e % 32 * l + c) 0 ≡ x (pos e) (pos c)
+
+-- the stores after a arrivals of x: the sum store holds the column sums of the last of them, row a - 1 - D, at k·L + c
+pub record Stores (t : Table) (l : ℕ) (x : Scan) (a : ℕ) (samples sums : List ℕ) : Type 0 where
+  pub samples-long : 32 * l ≤ length samples
+  pub sums-long : t .count * l ≤ length sums
+  pub kept : Kept l x a samples
+  pub carried :
+      (k c : ℕ) → k < t .count → c < l → getD sums (k * l + c) 0 ≡ columnSum t x (rect t k) (subℕ a (suc (delayOf t))) (pos c)
