@@ -2,7 +2,7 @@
 -- Assumes nothing.
 use Prim.Native.Nat.{ℕ, suc, _+_, _-_, _*_, _^_}
 use mathlib.Core.Bool.{Bool, true, false, not, cond, _&&_}
-use mathlib.Core.List.{List, _++_}
+use mathlib.Core.List.{List, [], _∷_, _++_}
 use lib.Dec.{leb, ltb, eqb}
 use lib.ListN.{length, drop}
 use lib.IntN.{ℤ}
@@ -19,7 +19,7 @@ use Rattle.scan.specs.declared.Answer.{Answer}
 use Rattle.scan.specs.declared.Answer.the-variants.{Row, Waiting, Refused as RowRefused}
 use Rattle.scan.specs.declared.Closing.{Closing}
 use Rattle.scan.specs.declared.Closing.the-variants.{Row as LateRow, Waiting as StillWaiting, Done, Refused as StepRefused}
-use Rattle.scan.specs.Arrivals.{Arrival, arrivalSays, samplesAfter, sumsAfter, outputAfter}
+use Rattle.scan.specs.Arrivals.{Arrival, arrivalSays}
 
 -- by a verdict: what holds where the call is accepted, and what where it is refused
 abbrev pub by {ℓ} : {A : Type ℓ} → Verdict → (accepted refused : A) → A
@@ -79,6 +79,17 @@ unfoldable pub rowAnswer : Scan → Verdict → Answer
 rowAnswer s Accepted = cond (ltb (s .rows + s .steps) (delayOf (s .table))) Waiting (Row (s .rows + s .steps - delayOf (s .table)))
 rowAnswer s (Refused number place) = RowRefused number place
 
+-- a row's answer as the papers have it: the number, 0 where the row was taken in, and the place; and the filtered row that came out
+abbrev pub answerSaid : Answer → Said
+answerSaid (Row r) = record { number = 0; place = 0 }
+answerSaid Waiting = record { number = 0; place = 0 }
+answerSaid (RowRefused number place) = record { number = number; place = place }
+
+abbrev pub answerRow : Answer → List ℕ
+answerRow (Row r) = r ∷ []
+answerRow Waiting = []
+answerRow (RowRefused number place) = []
+
 -- the scan with one row more
 abbrev pub rowIn : Scan → Scan
 rowIn s = record { table = s .table; width = s .width; rows = s .rows + 1; steps = s .steps; closed = s .closed }
@@ -125,6 +136,19 @@ unfoldable pub stepAnswer : Scan → Turn → Closing
 stepAnswer s (refused number place) = StepRefused number place
 stepAnswer s done = Done
 stepAnswer s taken = cond (ltb (s .rows + s .steps) (delayOf (s .table))) StillWaiting (LateRow (s .rows + s .steps - delayOf (s .table)))
+
+-- a step's answer as the papers have it, and the filtered row that came out
+abbrev pub closingSaid : Closing → Said
+closingSaid (LateRow r) = record { number = 0; place = 0 }
+closingSaid StillWaiting = record { number = 0; place = 0 }
+closingSaid Done = record { number = 0; place = 0 }
+closingSaid (StepRefused number place) = record { number = number; place = place }
+
+abbrev pub closingRow : Closing → List ℕ
+closingRow (LateRow r) = r ∷ []
+closingRow StillWaiting = []
+closingRow Done = []
+closingRow (StepRefused number place) = []
 
 abbrev pub stepIn : Scan → Scan
 stepIn s = record { table = s .table; width = s .width; rows = s .rows; steps = s .steps + 1; closed = s .closed }
