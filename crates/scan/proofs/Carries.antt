@@ -1,6 +1,6 @@
 -- Column sums that passed question 19, carried rectangle by rectangle.
 -- Assumes nothing.
-use Prim.Native.Nat.{ℕ, _+_, _-_, _*_, _^_, _≤_, _<_}
+use Prim.Native.Nat.{ℕ, _+_, _-_, _*_, _/_, _^_, _≤_, _<_}
 use native.Mathlib.Omega.{arith}
 use native.Mathlib.Nat.{le-of-eq, mul-le-mul}
 use native.Mathlib.Numerals.{add-one}
@@ -10,21 +10,23 @@ use mathlib.Core.List.{List, _++_, append-nil}
 use lib.Dec.{T, leb, leb→le}
 use lib.ListN.{length, getD, take, drop, drop-of-length-le}
 use lib.Seq.{getD-append-add, getD-take, getD-drop}
-use lib.IntN.{ℤ}
+use lib.IntN.{ℤ, pos, _+ℤ_, _-ℤ_}
 use lib.Pow.{pow-mono}
 use borrow.Rule.Slice.PartMut.{putMid}
 use mir.Facts.{and-yes}
 use Rattle.arith.specs.All.{all}
 use Rattle.arith.specs.Tab.{tab, grid}
 use Rattle.arith.proofs.Alls.{all-at, all-cong}
-use Rattle.arith.proofs.Tabs.{tab-cong}
+use Rattle.arith.proofs.Tabs.{tab-cong, getD-tab}
 use Rattle.arith.proofs.Passes.{length-grid, grid-line}
 use Rattle.layout.specs.declared.Table.{Table}
 use Rattle.layout.specs.Contents.{rect}
+use Rattle.layout.specs.Measure.{delayOf}
 use Rattle.limits.specs.Limits.{acceptable}
 use Rattle.limits.proofs.Granted.{granted}
-use Rattle.scan.specs.Arrivals.{Arrival, edgeRow, cutAt, leaving, stored, newSum, sumMost, sumGood}
-use Rattle.scan.specs.Passes.{arriving}
+use Rattle.scan.specs.Arrivals.{Arrival, rowAt, edgeRow, cutAt, leaving, stored, newSum, sumMost, sumGood}
+use Rattle.scan.proofs.Delays.{delay-most}
+use Rattle.scan.specs.Passes.{arriving, Room, Dark}
 
 -- the most that a column sum of a table within the limits can be
 pub most-le : (t : Table) (k : ℕ) → acceptable t ≡ true → k < t .count → sumMost t (rect t k) ≤ 126945
@@ -80,18 +82,19 @@ next-good t l a row samples sums k f {now} e h = subst T (all-cong l (λ c p. sy
     same : (c : ℕ) → sumGood (arriving t l a row samples now) k c ≡ sumGood (arriving t l a row samples sums) k c
     same c = rw (ap (λ xs. getD xs (k * l + c) 0) e ∙ grid-next k l f sums c) refl
 
--- the edges' samples are the same on any sums
-pub cut-same :
-    (t : Table) (l a : ℕ) (row samples xs ys : List ℕ) (z : ℤ) (c : ℕ)
-    → cutAt (arriving t l a row samples xs) z c ≡ cutAt (arriving t l a row samples ys) z c
-unfolding cutAt edgeRow
-cut-same t l a row samples xs ys z c = refl
+-- what reaching for a row asks
+pub reach-asks :
+    (t : Table) {l a d row samples sums : ℕ} {zeros : List ℕ} → acceptable t ≡ true → d ≡ delayOf t → Room t l a row samples sums → Dark zeros
+    → (l ≤ 1024) × (a ≤ 65550) × (d ≤ 15) × (l ≤ row) × (32 * l ≤ samples) × Dark zeros
+reach-asks t e f r z = let m = delay-most t e in (r .width-most, r .number-most, omega arith, r .row-long, r .samples-long, z)
 
--- place c of the part of l places from place p on
-pub part-at : (p l : ℕ) (xs : List ℕ) (c : ℕ) → c < l → getD (take (p + l - p) (drop p xs)) c 0 ≡ getD xs (p + c) 0
-part-at p l xs c h =
-    let e : p + l - p ≡ l = omega arith in
-    rw e (getD-take l (drop p xs) c 0 h ∙ getD-drop p xs c 0)
+-- the row that an edge reaches, cut
+pub reached-at :
+    (t : Table) (l a d : ℕ) (row samples sums : List ℕ) (z : ℤ) {r : List ℕ} → d ≡ delayOf t → r ≡ tab l (rowAt l a row samples ((pos a -ℤ pos d) +ℤ z))
+    → (c : ℕ) → c < l → getD r c 0 / 2 ^ t .q1 ≡ cutAt (arriving t l a row samples sums) z c
+unfolding cutAt edgeRow
+reached-at t l a d row samples sums z e f c h =
+    ap (λ xs. getD xs c 0 / 2 ^ t .q1) f ∙ ap (λ x. x / 2 ^ t .q1) (getD-tab l _ c 0 h) ∙ rw e refl
 
 -- a pass over a whole list
 pub pass-whole : (n : ℕ) (xs : List ℕ) {f g : ℕ → ℕ} → length xs ≡ n → ((c : ℕ) → c < n → f c ≡ g c) → tab n f ++ drop n xs ≡ tab n g

@@ -96,3 +96,8 @@ pub weighed-line :
     ≡ tab width (weighed t d line acc)
 weighed-line t d line acc width b n above below z e l en ea eb =
     tab-cong width (λ c h. rw (ea, eb, en, line-sum t d line b c z e l))
+
+-- of the two parts of an integer one is 0
+pub one-part : (z : ℤ) {above below : ℕ} → above ≡ posPart z → below ≡ negPart z → 0 < below → above ≡ 0
+one-part (pos n) e f h = absurd (omega arith)
+one-part (negsuc n) e f h = e

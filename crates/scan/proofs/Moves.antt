@@ -1,76 +1,109 @@
 -- Laws of the two steps of a column sum, and of a window sum that slides along a line.
 -- Assumes nothing.
-use Prim.Native.Nat.{ℕ, suc, _+_, _-_, _*_, _/_, _%_, _^_, _≤_, _<_, max}
-use native.Mathlib.Nat.{add-zero, mod-eq-of-lt, mul-le-mul}
+use Prim.Native.Nat.{ℕ, _+_, _-_, _*_, _/_, _%_, _^_, _≤_, _<_, zero-le}
+use native.Mathlib.Nat.{div-add-mod, div-le-self, mod-eq-of-lt, mul-le-mul, lt-of-le-of-lt, le-refl}
 use native.Mathlib.Omega.{arith}
-use mathlib.Core.Path.{_≡_, sym, ap, _∙_}
+use mathlib.Core.Path.{_≡_, refl, sym, ap, subst, _∙_}
 use mathlib.Core.Bool.{Bool, true, false, cond, _&&_}
 use mathlib.Core.List.{List}
-use lib.Dec.{T, leb, le→leb, leb→le}
+use lib.Dec.{T, leb, eqb, le→leb, leb→le, eqb→eq}
 use lib.ListN.{getD}
-use mir.Facts.{and-yes, yes-and}
-use borrow.Author.Tests.{le-leb, lt-leb}
+use borrow.Author.Tests.{eq-eqb}
+use mir.Val.{Fits}
+use mir.Syntax.{w16, w32}
+use mir.Facts.{and-yes, yes-and, fits-widen}
 use Rattle.arith.proofs.Bools.{bool-eq}
-use Rattle.arith.proofs.Sums.{sum-suc, sum-first, sum-cong, sum-bound, term-le-sum}
+use Rattle.arith.proofs.Sums.{sum-split}
 use Rattle.arith.specs.Sum.{sum}
-use Rattle.scan.specs.Passes.{movable, movedSum, placed, scaledLine}
+use Rattle.scan.proofs.Places.{part, part-at}
+use Rattle.scan.specs.Passes.{movable, placed}
 
--- the larger of two is within n when both are
-pub leb-max : (a b n : ℕ) → leb (max a b) n ≡ (leb a n && leb b n)
-leb-max a b n =
-    bool-eq (leb (max a b) n) (leb a n && leb b n)
-    (λ t. let h = leb→le (max a b) n t in yes-and (leb a n) (leb b n) (le→leb a n (omega arith)) (le→leb b n (omega arith)))
-    (λ t. let h = and-yes (leb a n) (leb b n) t in let p = leb→le a n (h .0) in let q = leb→le b n (h .1) in le→leb (max a b) n (omega arith))
+-- ---- the two steps, which wrap at 2^32
 
--- the choice of a test t that holds only where s is within n
-within : (t : Bool) (s n : ℕ) → (T t → T (leb s n)) → leb (cond t s (n + 1)) n ≡ t
-within true s n h = le-leb s n (leb→le s n (h tt))
-within false s n h = lt-leb (n + 1) n (omega arith)
+-- both steps stay within the bound exactly when the sum may move
+module _
+    (stored off on less s bound : ℕ) (a : stored < 4294967296) (b : off < 65536) (c : on < 65536) (d : less < 4294967296) (e : bound ≤ 131071)
+    (f : (less + off) % 4294967296 ≡ stored) (g : s ≡ (less + on) % 4294967296) where
+  pub step-good : (leb less bound && leb s bound) ≡ movable stored off on bound
+  step-good =
+      let p = div-add-mod (less + off) 4294967296 in
+      let q = div-add-mod (less + on) 4294967296 in
+      bool-eq (leb less bound && leb s bound) (movable stored off on bound)
+      (λ t.
+      let h = and-yes (leb less bound) (leb s bound) t in
+      let x = leb→le less bound (h .0) in
+      let y = leb→le s bound (h .1) in
+      yes-and (leb off stored) (leb (stored - off + on) bound) (le→leb off stored (omega arith)) (le→leb (stored - off + on) bound (omega arith)))
+      (λ t.
+      let h = and-yes (leb off stored) (leb (stored - off + on) bound) t in
+      let x = leb→le off stored (h .0) in
+      let y = leb→le (stored - off + on) bound (h .1) in
+      yes-and (leb less bound) (leb s bound) (le→leb less bound (omega arith)) (le→leb s bound (omega arith)))
 
--- the moved sum is within the bound exactly when the sum may move
-pub moved-within : (s off on bound : ℕ) → leb (movedSum s off on bound) bound ≡ movable s off on bound
-moved-within s off on bound =
-    within (movable s off on bound) (s - off + on) bound (λ t. and-yes (leb off s) (leb (s - off + on) bound) t .1)
+  pub step-sum : T (movable stored off on bound) → s ≡ stored - off + on
+  step-sum t =
+      let p = div-add-mod (less + off) 4294967296 in
+      let q = div-add-mod (less + on) 4294967296 in
+      let h = and-yes (leb off stored) (leb (stored - off + on) bound) t in
+      let x = leb→le off stored (h .0) in
+      let y = leb→le (stored - off + on) bound (h .1) in
+      omega arith
 
-chosen : (t : Bool) (s n : ℕ) → (T t → T (leb s n)) → cond t s (n + 1) ≤ n + 1
-chosen true s n h = let p = leb→le s n (h tt) in omega arith
-chosen false s n h = omega arith
+-- neither of two fails exactly when both hold
+pub none-past : (a b : Bool) → eqb (cond a 0 1 + cond b 0 1) 0 ≡ (a && b)
+none-past true true = refl
+none-past true false = refl
+none-past false true = refl
+none-past false false = refl
 
--- and never above the bound by more than 1
-pub moved-le : (s off on bound : ℕ) → movedSum s off on bound ≤ bound + 1
-moved-le s off on bound =
-    chosen (movable s off on bound) (s - off + on) bound (λ t. and-yes (leb off s) (leb (s - off + on) bound) t .1)
+-- no failure so far, and none more
+pub none-more : (n m : ℕ) → eqb (n + m) 0 ≡ (eqb n 0 && eqb m 0)
+none-more n m =
+    bool-eq (eqb (n + m) 0) (eqb n 0 && eqb m 0)
+    (λ t. let e = eqb→eq (n + m) 0 t in yes-and (eqb n 0) (eqb m 0) (is n (omega arith)) (is m (omega arith)))
+    (λ t. let h = and-yes (eqb n 0) (eqb m 0) t in let e = eqb→eq n 0 (h .0) in let f = eqb→eq m 0 (h .1) in is (n + m) (omega arith))
+  where
+    is : (n : ℕ) → n ≡ 0 → T (eqb n 0)
+    is n e = subst T (sym (eq-eqb n 0 e)) tt
 
--- a window one place on: the first place off, the next one on
-pub slide : (line : List ℕ) (base n c : ℕ)
-    → placed line base n c + getD line (base + c + n) 0 ≡ getD line (base + c) 0 + placed line base n (c + 1)
-slide line base n c =
-    let f : ℕ → ℕ = λ j. getD line (base + c + j) 0 in
-    sym (sum-suc n f) ∙ sum-first n f
-    ∙ (let p = ap (λ i. getD line i 0) (add-zero (base + c)) in
-    let q = sum-cong n {f = λ k. f (suc k)} {g = λ j. getD line (base + (c + 1) + j) 0} (λ k h. ap (λ i. getD line i 0) (omega arith)) in
-    omega arith)
+-- a cut sample fits 32 bits
+pub cut-fits : (x q : ℕ) → Fits w16 x → Fits w32 (x / 2 ^ q)
+cut-fits x q f = record { fits = lt-of-le-of-lt (div-le-self x (2 ^ q)) (fits-widen {w = w16} {w′ = w32} tt f .fits) }
 
--- the first place is in the window's sum
-pub first-in : (line : List ℕ) (base n c : ℕ) → 1 ≤ n → getD line (base + c) 0 ≤ placed line base n c
-first-in line base n c h =
-    let p = ap (λ i. getD line i 0) (add-zero (base + c)) in
-    let q = term-le-sum n (λ j. getD line (base + c + j) 0) 0 h in
-    omega arith
+-- ---- windows
 
--- a sum of at most 31 places that each hold at most 2^17
-pub placed-le : (line : List ℕ) (base n c : ℕ) → ((i : ℕ) → getD line i 0 ≤ 131072) → n ≤ 31 → placed line base n c ≤ 4063232
-placed-le line base n c h l =
-    let p = sum-bound n 131072 {f = λ j. getD line (base + c + j) 0} (λ j m. h (base + c + j)) in
-    omega arith
+-- a window's sum is the difference of two running sums
+pub placed-run : (line : List ℕ) (base n c : ℕ)
+    → sum (base + c) (λ j. getD line j 0) + placed line base n c ≡ sum (base + c + n) (λ j. getD line j 0)
+placed-run line base n c = sym (sum-split (base + c) n (λ j. getD line j 0))
+
+-- the running sums before and after a window, lent as two parts
+module _
+    (line runs : List ℕ) (m base n width : ℕ) (is : (i : ℕ) → i < m → getD runs i 0 ≡ sum i (λ j. getD line j 0)) (ends : base + n + width ≤ m)
+    (c : ℕ) (h : c < width) where
+  after-is : getD (part (base + n) width runs) c 0 ≡ getD (part base width runs) c 0 + placed line base n c
+  after-is =
+      let e : base + n + c ≡ base + c + n = omega arith in
+      part-at (base + n) width runs c h ∙ is (base + n + c) (omega arith) ∙ ap (λ i. sum i (λ j. getD line j 0)) e ∙ sym (placed-run line base n c)
+      ∙ ap (λ x. x + placed line base n c) (sym (part-at base width runs c h ∙ is (base + c) (omega arith)))
+
+  pub runs-up : getD (part base width runs) c 0 ≤ getD (part (base + n) width runs) c 0
+  runs-up = let e = after-is in omega arith
+
+  pub window-run : getD (part (base + n) width runs) c 0 - getD (part base width runs) c 0 ≡ placed line base n c
+  window-run = let e = after-is in omega arith
 
 -- a scaled sum below 2^22 is not cut at 32 bits
-pub scaled-exact : (line : List ℕ) (base n q3 q c : ℕ) {s : ℕ} → s ≡ placed line base n c → scaledLine line base n q3 q c < 4194304
-    → (s / 2 ^ q3 * 2 ^ q) % 4294967296 ≡ scaledLine line base n q3 q c
-scaled-exact line base n q3 q c e h = ap (λ s. (s / 2 ^ q3 * 2 ^ q) % 4294967296) e ∙ mod-eq-of-lt (omega arith)
+pub scaled-exact : (x : ℕ) → x < 4194304 → x % 4294967296 ≡ x
+scaled-exact x h = mod-eq-of-lt (omega arith)
 
 -- a weight of at most 2^15 times it is at most 2^37
 pub part-le : (w x : ℕ) → w ≤ 32768 → x < 4194304 → w * x ≤ 137438953472
 part-le w x h l =
     let m : x ≤ 4194304 = omega arith in
     mul-le-mul h m
+
+-- a count of what fails is at most 1
+pub past-one : (a : Bool) → cond a 0 1 ≤ 1
+past-one true = zero-le
+past-one false = le-refl 1

@@ -9,7 +9,7 @@ use mathlib.Core.Bool.{Bool, true, false, cond, not}
 use mathlib.Core.List.{List, _++_}
 use lib.Dec.{T, ltb, ltb→lt, nltb→le}
 use lib.IntN.{ℤ, pos, negsuc, _*ℤ_}
-use lib.ListN.{length, getD, take, drop, replicate, List·getD-append}
+use lib.ListN.{length, getD, take, drop, replicate, length-replicate, List·getD-append}
 use lib.Pow.{shr-mono}
 use lib.Seq.{getD-append-add, getD-drop, getD-take, length-take-le}
 use borrow.Rule.Slice.PartMut.{putMid, postOf}
@@ -19,7 +19,6 @@ use Rattle.arith.specs.Part.{posPart, negPart}
 use Rattle.arith.specs.Sum.{sumℤ}
 use Rattle.arith.specs.Tab.{tab}
 use Rattle.arith.specs.Twos.{fitsSigned}
-use Rattle.arith.proofs.Bools.{true-of}
 use Rattle.arith.proofs.Ints.{diff-add, diff-parts, diff-scale, diff-shift, sumℤ-suc}
 use Rattle.arith.proofs.Passes.{pass-done, pass-length}
 use Rattle.arith.proofs.Sums.{sum-cong}
@@ -31,61 +30,81 @@ use Rattle.limits.specs.Limits.{acceptable}
 use Rattle.limits.proofs.Granted.{granted}
 use Rattle.rule.specs.Sums.{covered}
 use Rattle.scan.specs.Arrivals.{Arrival, leaving, entering, stored, newSum, sumMost, sumGood, lineAt, windowAt, scaledAt}
-use Rattle.scan.specs.Passes.{movable, movedSum, lineFrom, lineSum, weighed, Weighed}
+use Rattle.scan.specs.Passes.{movable, lineFrom, lineSum, weighed, Weighed, Blank, Dark}
 use Rattle.scan.proofs.Carries.{good-at}
 use Rattle.scan.proofs.Lines.{line-sum, window-le}
 
 -- ---- the line
 
-pub same-at : (a n i : ℕ) → getD (replicate n a) i a ≡ a
-same-at a zero i = refl
-same-at a (suc n) zero = refl
-same-at a (suc n) (suc i) = same-at a n i
-
 append-at : (p q : List ℕ) (n j : ℕ) → length p ≡ n → getD (p ++ q) (n + j) 0 ≡ getD q j 0
 append-at p q n j e = ap (λ i. getD (p ++ q) (i + j) 0) (sym e) ∙ getD-append-add p q j 0
 
--- zeros with w numbers in the place of those from place 16 on
-module _ (zeros : List ℕ) (w : ℕ) (f : ℕ → ℕ) (long : 16 ≤ length zeros) (none : (i : ℕ) → getD zeros i 0 ≡ 0) where
-  before-column : (i : ℕ) → i < 16 → getD (putMid 16 (16 + w - 16) zeros (tab w f)) i 0 ≡ 0
-  before-column i h =
-      let l = length-take-le 16 zeros long in
-      List·getD-append (take 16 zeros) (tab w f ++ postOf 16 (16 + w - 16) zeros) 0 i (omega arith) ∙ getD-take 16 zeros i 0 h ∙ none i
+-- w numbers in a blank line from place 16 on
+module _ (line ys : List ℕ) (w : ℕ) (blank : Blank w line) (few : length ys ≡ w) where
+  abbrev put : List ℕ
+  put = putMid 16 (16 + w - 16) line ys
 
-  at-column : (j : ℕ) → getD (putMid 16 (16 + w - 16) zeros (tab w f)) (16 + j) 0 ≡ cond (ltb j w) (f j) 0
-  at-column j =
-      append-at (take 16 zeros) (tab w f ++ postOf 16 (16 + w - 16) zeros) 16 j (length-take-le 16 zeros long) ∙ go (ltb j w) (ltb→lt j w) (nltb→le j w)
-    where
-      go : (c : Bool) → (T c → j < w) → (T (not c) → w ≤ j) → getD (tab w f ++ postOf 16 (16 + w - 16) zeros) j 0 ≡ cond c (f j) 0
-      go true y n =
-          let h = y tt in
-          let l = length-tab w f in
-          List·getD-append (tab w f) (postOf 16 (16 + w - 16) zeros) 0 j (omega arith) ∙ getD-tab w f j 0 h
-      go false y n =
-          let h = n tt in
-          let e : j ≡ w + (j - w) = omega arith in
-          ap (λ i. getD (tab w f ++ postOf 16 (16 + w - 16) zeros) i 0) e
-          ∙ append-at (tab w f) (postOf 16 (16 + w - 16) zeros) w (j - w) (length-tab w f)
-          ∙ getD-drop (16 + w - 16) (drop 16 zeros) (j - w) 0 ∙ getD-drop 16 zeros (16 + w - 16 + (j - w)) 0 ∙ none _
+  long : 16 ≤ length line
+  long = let l = blank .places in omega arith
+
+  before-column : (i : ℕ) → i < 16 → getD put i 0 ≡ 0
+  before-column i h =
+      let l = length-take-le 16 line long in
+      List·getD-append (take 16 line) (ys ++ postOf 16 (16 + w - 16) line) 0 i (omega arith) ∙ getD-take 16 line i 0 h ∙ blank .before i h
+
+  in-column : (j : ℕ) → j < w → getD put (16 + j) 0 ≡ getD ys j 0
+  in-column j h =
+      append-at (take 16 line) (ys ++ postOf 16 (16 + w - 16) line) 16 j (length-take-le 16 line long)
+      ∙ List·getD-append ys (postOf 16 (16 + w - 16) line) 0 j (omega arith)
+
+  after-column : (j : ℕ) → w ≤ j → getD put (16 + j) 0 ≡ 0
+  after-column j h =
+      let e : j ≡ w + (j - w) = omega arith in
+      append-at (take 16 line) (ys ++ postOf 16 (16 + w - 16) line) 16 j (length-take-le 16 line long)
+      ∙ ap (λ i. getD (ys ++ postOf 16 (16 + w - 16) line) i 0) e ∙ append-at ys (postOf 16 (16 + w - 16) line) w (j - w) few
+      ∙ getD-drop (16 + w - 16) (drop 16 line) (j - w) 0 ∙ getD-drop 16 line (16 + w - 16 + (j - w)) 0 ∙ blank .after _ (omega arith)
+
+  pub blank-put : length put ≡ length line → Blank w put
+  blank-put l =
+      record {
+        places = l ∙ blank .places;
+        before = before-column;
+        after = λ i h. let e : i ≡ 16 + (i - 16) = omega arith in ap (λ m. getD put m 0) e ∙ after-column (i - 16) (omega arith);
+      }
+
+-- a line of zeros is blank, and such a row is dark
+zero-at : (n i : ℕ) → getD {A = ℕ} (replicate n 0) i 0 ≡ 0
+zero-at zero i = refl
+zero-at (suc n) zero = refl
+zero-at (suc n) (suc i) = zero-at n i
+
+pub blank-none : (w : ℕ) → Blank w (replicate 1056 0)
+blank-none w = record { places = length-replicate {A = ℕ} 1056 0; before = λ i h. zero-at 1056 i; after = λ i h. zero-at 1056 i }
+
+pub dark-none : Dark (replicate 1024 0)
+dark-none = record { long = length-replicate {A = ℕ} 1024 0; none = zero-at 1024 }
 
 -- the cut column sums of rectangle k from place 16 on, and zeros elsewhere
 pub record Lined (v : Arrival) (k : ℕ) (line : List ℕ) : Type 0 where
   pub before : (i : ℕ) → i < 16 → getD line i 0 ≡ 0
   pub column : (j : ℤ) → lineFrom line j ≡ lineAt v k j / 2 ^ v .table .q2
 
-div-cond : (c : Bool) (a q : ℕ) → cond c (a / 2 ^ q) 0 ≡ cond c a 0 / 2 ^ q
-div-cond true a q = refl
-div-cond false a q = sym (zero-div (2 ^ q))
-
 pub lined :
-    (v : Arrival) (k : ℕ) (zeros : List ℕ) → 16 ≤ length zeros → ((i : ℕ) → getD zeros i 0 ≡ 0)
-    → {ys : List ℕ} → ys ≡ tab (v .width) (λ c. newSum v k c / 2 ^ v .table .q2)
-    → Lined v k (putMid 16 (16 + v .width - 16) zeros ys)
+    (v : Arrival) (k : ℕ) (line ys : List ℕ) → Blank (v .width) line → ys ≡ tab (v .width) (λ c. newSum v k c / 2 ^ v .table .q2)
+    → Lined v k (putMid 16 (16 + v .width - 16) line ys)
 unfolding lineFrom lineAt
-lined v k zeros long none e = rw e (record { before = before-column zeros (v .width) _ long none; column = column })
+lined v k line ys blank e = record { before = before-column line ys (v .width) blank few; column = column }
   where
-    column : (j : ℤ) → lineFrom (putMid 16 (16 + v .width - 16) zeros (tab (v .width) (λ c. newSum v k c / 2 ^ v .table .q2))) j ≡ lineAt v k j / 2 ^ v .table .q2
-    column (pos j) = at-column zeros (v .width) _ long none j ∙ div-cond (ltb j (v .width)) (newSum v k j) (v .table .q2)
+    few : length ys ≡ v .width
+    few = ap length e ∙ length-tab (v .width) _
+
+    at : (j : ℕ) (c : Bool) → (T c → j < v .width) → (T (not c) → v .width ≤ j) → getD (putMid 16 (16 + v .width - 16) line ys) (16 + j) 0 ≡ cond c (newSum v k j) 0 / 2 ^ v .table .q2
+    at j true y n =
+        in-column line ys (v .width) blank few j (y tt) ∙ ap (λ xs. getD xs j 0) e ∙ getD-tab (v .width) (λ c. newSum v k c / 2 ^ v .table .q2) j 0 (y tt)
+    at j false y n = after-column line ys (v .width) blank few j (n tt) ∙ sym (zero-div (2 ^ v .table .q2))
+
+    column : (j : ℤ) → lineFrom (putMid 16 (16 + v .width - 16) line ys) j ≡ lineAt v k j / 2 ^ v .table .q2
+    column (pos j) = at j (ltb j (v .width)) (ltb→lt j (v .width)) (nltb→le j (v .width))
     column (negsuc j) = sym (zero-div (2 ^ v .table .q2))
 
 -- question 19 of a column, and its new sum where it holds, by what the passes read
@@ -96,9 +115,9 @@ module _
   unfolding sumGood newSum
   movable-good = rw (es, eo, en, eb)
 
-  pub moved-new : T (sumGood v k c) → movedSum s off on bound ≡ newSum v k c
+  pub moved-new : s - off + on ≡ newSum v k c
   unfolding newSum
-  moved-new g = ap (λ t. cond t (s - off + on) (bound + 1)) (movable-good ∙ true-of _ g) ∙ rw (es, eo, en)
+  moved-new = rw (es, eo, en)
 
 -- where question 19 holds, each place is within the bound
 module _ (v : Arrival) (k : ℕ) (good : T (all (v .width) (sumGood v k))) where
@@ -110,9 +129,9 @@ module _ (v : Arrival) (k : ℕ) (good : T (all (v .width) (sumGood v k))) where
       go true y = good-at v k good j (y tt) .1
       go false y = zero-le
 
-  pub place-most : {line : List ℕ} → Lined v k line → (i : ℕ) → getD line i 0 ≤ sumMost (v .table) (rect (v .table) k) / 2 ^ v .table .q2
+  pub in-line : {line : List ℕ} → Lined v k line → (i : ℕ) → getD line i 0 ≤ sumMost (v .table) (rect (v .table) k) / 2 ^ v .table .q2
   unfolding lineFrom
-  place-most {line} l i = go (ltb i 16) (ltb→lt i 16) (nltb→le i 16)
+  in-line {line} l i = go (ltb i 16) (ltb→lt i 16) (nltb→le i 16)
     where
       go : (c : Bool) → (T c → i < 16) → (T (not c) → 16 ≤ i) → getD line i 0 ≤ sumMost (v .table) (rect (v .table) k) / 2 ^ v .table .q2
       go true y n = let e = l .before i (y tt) in omega arith
@@ -145,7 +164,7 @@ scaled-lt v k e h good {line} l c =
     let b = g .bounds k h in
     let d = diff-shift {q = b .col .trail + 112} {m = 128} (b .col .trail-is) (omega arith) in
     subst (λ s. s < 4194304) (line-sum (v .table) (rect (v .table) k) line (b .col .trail + 112) c (l .before) d (omega arith))
-    (window-le (v .table) (rect (v .table) k) line (b .col .trail + 112 - 111) c (g .q1-less) (g .bits-most) (b .rows-most) (b .cols-most) (place-most v k good l))
+    (window-le (v .table) (rect (v .table) k) line (b .col .trail + 112 - 111) c (g .q1-less) (g .bits-most) (b .rows-most) (b .cols-most) (in-line v k good l))
 
 few-below : (v : Arrival) (k : ℕ) → acceptable (v .table) ≡ true → k < v .table .count → k ≤ 15
 few-below v k e h = let f = granted (v .table) e .few in omega arith

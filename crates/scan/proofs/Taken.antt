@@ -37,6 +37,7 @@ use Rattle.scan.specs.Arrivals.{Arrival, newSum, sumMost, sumGood, arriv
 use Rattle.scan.specs.Passes.{Weighed}
 use Rattle.scan.proofs.Lines.{cut-le}
 use Rattle.scan.proofs.Carries.{good-at, pass-whole}
+use Rattle.scan.proofs.Places.{part-length}
 
 -- ---- question 19
 
@@ -109,12 +110,9 @@ settles-word v acc a good w c h =
 
 -- the arriving row, copied into its place
 pub keeps : (p l : ℕ) (row xs : List ℕ) → length row ≡ l → p + l ≤ length xs
-    → putMid p l xs (tab l (λ c. getD row c 0 / 2 ^ 0) ++ drop l (take (p + l - p) (drop p xs))) ≡ paste p row xs
+    → putMid p l xs (tab l (λ c. getD row c 0) ++ drop l (take (p + l - p) (drop p xs))) ≡ paste p row xs
 unfolding paste
 keeps p l row xs e h =
-    let n : p + l - p ≡ l = omega arith in
-    let d = length-drop p xs in
-    let k : length (take (p + l - p) (drop p xs)) ≡ l = length-take-le (p + l - p) (drop p xs) (omega arith) ∙ n in
-    let r : tab l (λ c. getD row c 0 / 2 ^ 0) ++ drop l (take (p + l - p) (drop p xs)) ≡ row =
-    pass-whole l (take (p + l - p) (drop p xs)) {f = λ c. getD row c 0 / 2 ^ 0} {g = λ c. getD row c 0} k (λ c i. div-one (getD row c 0)) ∙ tab-getD row l 0 e in
+    let r : tab l (λ c. getD row c 0) ++ drop l (take (p + l - p) (drop p xs)) ≡ row =
+    pass-whole l (take (p + l - p) (drop p xs)) {f = λ c. getD row c 0} {g = λ c. getD row c 0} (part-length p l xs h) (λ c i. refl) ∙ tab-getD row l 0 e in
     rw (r, e, drop-drop l p xs) (sym (append-assoc (take p xs) row (drop (p + l) xs)))

@@ -2,7 +2,7 @@
 -- Assumes nothing.
 use Prim.Native.Nat.{ℕ, _+_, _-_, _*_, _/_, _^_, _≤_, _<_}
 use mathlib.Core.Path.{_≡_}
-use mathlib.Core.Bool.{Bool, cond, _&&_}
+use mathlib.Core.Bool.{Bool, _&&_}
 use mathlib.Core.List.{List}
 use lib.Dec.{leb}
 use lib.ListN.{length, getD}
@@ -21,10 +21,6 @@ use Rattle.scan.specs.Arrivals.{Arrival, scaledAt}
 abbrev pub movable : (stored off on bound : ℕ) → Bool
 movable stored off on bound = leb off stored && leb (stored - off + on) bound
 
--- the moved sum, or bound + 1 where it may not
-abbrev pub movedSum : (stored off on bound : ℕ) → ℕ
-movedSum stored off on bound = cond (movable stored off on bound) (stored - off + on) (bound + 1)
-
 -- column j of a line that begins with 16 zeros
 unfoldable pub lineFrom : List ℕ → (j : ℤ) → ℕ
 lineFrom line (pos j) = getD line (16 + j) 0
@@ -42,6 +38,11 @@ lineSum t d line c =
 -- the same by places of the line
 abbrev pub scaledLine : List ℕ → (base n q3 q c : ℕ) → ℕ
 scaledLine line base n q3 q c = placed line base n c / 2 ^ q3 * 2 ^ q
+
+-- a value with the part that the running sums before and after a window give
+abbrev pub added : (acc low high : List ℕ) → (q3 q above below c : ℕ) → ℕ
+added acc low high q3 q above below c =
+    getD acc c 0 + above * ((getD high c 0 - getD low c 0) / 2 ^ q3 * 2 ^ q) - below * ((getD high c 0 - getD low c 0) / 2 ^ q3 * 2 ^ q)
 
 -- the value of column c with a rectangle's part: its line of cut column sums stands from place 16 on
 abbrev pub weighed : Table → Rect → (line acc : List ℕ) → ℕ → ℕ
@@ -67,3 +68,14 @@ pub record Weighed (v : Arrival) (k : ℕ) (acc : List ℕ) : Type 0 where
   pub value : (c : ℕ) → c < v .width → Diff (sumℤ k (λ i. rect (v .table) i .weight *ℤ pos (scaledAt v i c))) (getD acc c 0) 2199023255552
   pub low : (c : ℕ) → c < v .width → 2199023255552 ≤ getD acc c 0 + k * 137438953472
   pub high : (c : ℕ) → c < v .width → getD acc c 0 ≤ 2199023255552 + k * 137438953472
+
+-- a line of 1,056 places with zeros but in the `width` places from place 16 on
+pub record Blank (width : ℕ) (line : List ℕ) : Type 0 where
+  pub places : length line ≡ 1056
+  pub before : (i : ℕ) → i < 16 → getD line i 0 ≡ 0
+  pub after : (i : ℕ) → 16 + width ≤ i → getD line i 0 ≡ 0
+
+-- a row of 1,024 zeros
+pub record Dark (zeros : List ℕ) : Type 0 where
+  pub long : length zeros ≡ 1024
+  pub none : (i : ℕ) → getD zeros i 0 ≡ 0

@@ -1,7 +1,7 @@
 // The arrival of a row, or of a closing row of zeros: first everything is read and asked, then written.
 ghost use mathlib.Core.Path.{_≡_};
 ghost use mathlib.Core.Bool.{true};
-ghost use mathlib.Core.List.{[], _++_};
+ghost use mathlib.Core.List.{_++_};
 ghost use Prim.Native.Nat.{ℕ, _+_, _*_, _/_, _^_, _≤_, _<_};
 ghost use lib.Dec.{T};
 ghost use lib.IntN.{subℕ};
@@ -15,12 +15,13 @@ ghost use Rattle.arith.specs.Twos.{fitsSigned};
 ghost use Rattle.layout.specs.Contents.{rect};
 ghost use Rattle.layout.specs.Measure.{delayOf};
 ghost use Rattle.limits.specs.Limits.{acceptable};
-ghost use Rattle.scan.specs.Arrivals.{leaving, entering, sumMost, sumGood, newSum, sumsAfter};
-ghost use Rattle.scan.specs.Passes.{arriving, weighed, Weighed, Room};
-use crate::fetch::fetch;
+ghost use Rattle.scan.specs.Arrivals.{sumMost, sumGood, newSum, sumsAfter};
+ghost use Rattle.scan.specs.Passes.{arriving, weighed, Weighed, Room, Blank, Dark};
+use crate::kept::reached;
 use crate::sums::carry;
 use crate::sums::renew;
 use crate::window::add_window;
+use crate::window::run_up;
 use arith::biased_byte;
 use arith::floor_shift;
 use arith::power;
@@ -28,31 +29,6 @@ use arith::sign_parts;
 use layout::Table;
 use layout::columns;
 use layout::rows;
-
-// The leaving and the entering cut samples of rectangle k into the first places of two lines.
-fn edges(
-    off: &mut [u16],
-    on: &mut [u16],
-    t: Table,
-    k: usize,
-    width: usize,
-    arrival: usize,
-    delay: usize,
-    samples: &[u16],
-    row: &[u16],
-)
-    requires { ⌜ (t .q1 ≤ 11) × (delay ≡ delayOf t) × (delay ≤ 15) × (k < 16) ⌝ }
-    requires { ⌜ (width ≤ length (now off)) × (width ≤ length (now on)) × (width ≤ length (now row)) × (32 * width ≤ length (now samples)) ⌝ }
-    requires { ⌜ (width ≤ 1024) × (arrival ≤ 65550) ⌝ }
-    ensures { λ _. ⌜ now (off .exit) ≡ tab width (leaving (arriving t width arrival (now (row .entry)) (now (samples .entry)) []) k) ++ drop width (now (off .entry)) ⌝ }
-    ensures { λ _. ⌜ now (on .exit) ≡ tab width (entering (arriving t width arrival (now (row .entry)) (now (samples .entry)) []) k) ++ drop width (now (on .entry)) ⌝ }
-{
-    let d = t.rects[k];
-    let trail = biased_byte(d.trailrow) as usize;
-    let lead = biased_byte(d.leadrow) as usize;
-    fetch(off, samples, row, width, arrival, delay, trail, t.q1);
-    fetch(on, samples, row, width, arrival, delay, lead, t.q1);
-}
 
 // The most that a column sum of rectangle k can be.
 fn sum_most(t: Table, k: usize) -> u32
@@ -65,47 +41,52 @@ fn sum_most(t: Table, k: usize) -> u32
 }
 
 // One rectangle: question 19 on its column sums, and its part of the values.
-fn rectangle(
+fn rectangle<'a>(
     acc: &mut [u64],
+    line: &mut [u32],
+    runs: &mut [u32],
+    zeros: &'a [u16],
     t: Table,
     k: usize,
     width: usize,
     arrival: usize,
     delay: usize,
-    samples: &[u16],
+    samples: &'a [u16],
     sums: &[u32],
-    row: &[u16],
+    row: &'a [u16],
 ) -> bool
     requires { ⌜ (acceptable t ≡ true) × (delay ≡ delayOf t) × (k < t .count) ⌝ }
     requires { ⌜ Room t width arrival (length (now row)) (length (now samples)) (length (now sums)) ⌝ }
     requires { ⌜ Weighed (arriving t width arrival (now row) (now samples) (now sums)) k (now acc) ⌝ }
+    requires { ⌜ Blank width (now line) × (length (now runs) ≡ 1056) × Dark (now zeros) ⌝ }
     ensures { λ g. ⌜ g ≡ all width (sumGood (arriving t width arrival (now (row .entry)) (now (samples .entry)) (now (sums .entry))) k) ⌝ }
     ensures { λ g. ⌜ (g ≡ true → Weighed (arriving t width arrival (now (row .entry)) (now (samples .entry)) (now (sums .entry))) (k + 1) (now (acc .exit))) ⌝ }
+    ensures { λ _. ⌜ Blank width (now (line .exit)) ⌝ }
 {
-    let mut off = [0u16; 1024];
-    let mut on = [0u16; 1024];
-    let mut line = [0u32; 1056];
-    edges(&mut off, &mut on, t, k, width, arrival, delay, samples, row);
+    let d = t.rects[k];
+    let off = reached(samples, row, zeros, width, arrival, delay, d.trailrow);
+    let on = reached(samples, row, zeros, width, arrival, delay, d.leadrow);
     let most = sum_most(t, k);
     let at = k * width;
     if !renew(
         &mut line[16..16 + width],
         &sums[at..at + width],
-        &off,
-        &on,
+        off,
+        on,
         width,
         most,
+        t.q1,
         t.q2,
     ) {
         return false;
     }
-    weigh(acc, &line, t, k, width);
+    weigh(acc, runs, line, t, k, width);
     true
 }
 
 // Adds the part of rectangle k, whose cut column sums stand in a line from place 16 on, to the values.
-fn weigh(acc: &mut [u64], line: &[u32], t: Table, k: usize, width: usize)
-    requires { ⌜ (acceptable t ≡ true) × (k < t .count) × (width ≤ 1024) × (length (now line) ≡ 1056) × (width ≤ length (now acc)) ⌝ }
+fn weigh(acc: &mut [u64], runs: &mut [u32], line: &[u32], t: Table, k: usize, width: usize)
+    requires { ⌜ (acceptable t ≡ true) × (k < t .count) × (width ≤ 1024) × (length (now line) ≡ 1056) × (length (now runs) ≡ 1056) × (width ≤ length (now acc)) ⌝ }
     requires { ⌜ ((i : ℕ) → i < 16 → getD (now line) i 0 ≡ 0) ⌝ }
     requires { ⌜ ((i : ℕ) → getD (now line) i 0 ≤ sumMost t (rect t k) / 2 ^ t .q2) ⌝ }
     requires { ⌜ ((c : ℕ) → c < width → (137438953472 ≤ getD (now acc) c 0) × (getD (now acc) c 0 ≤ 4398046511104)) ⌝ }
@@ -114,32 +95,59 @@ fn weigh(acc: &mut [u64], line: &[u32], t: Table, k: usize, width: usize)
     let d = t.rects[k];
     let p = sign_parts(d.weight);
     let base = biased_byte(d.trailcol) as usize - 111;
-    let n = columns(d) as usize;
+    let end = base + columns(d) as usize;
     let q = t.q1 + t.q2 + t.q3;
-    add_window(acc, line, base, n, width, t.q3, q, p.above, p.below);
+    run_up(runs, line, width + 32);
+    add_window(
+        acc,
+        &runs[base..base + width],
+        &runs[end..end + width],
+        width,
+        t.q3,
+        q,
+        p.above,
+        p.below,
+    );
 }
 
 // The first rectangle that fails question 19, or their number; the values are then complete.
-pub fn values(
+pub fn values<'a>(
     acc: &mut [u64],
+    zeros: &'a [u16],
     t: Table,
     width: usize,
     arrival: usize,
     delay: usize,
-    samples: &[u16],
+    samples: &'a [u16],
     sums: &[u32],
-    row: &[u16],
+    row: &'a [u16],
 ) -> usize
     requires { ⌜ (acceptable t ≡ true) × (delay ≡ delayOf t) ⌝ }
     requires { ⌜ Room t width arrival (length (now row)) (length (now samples)) (length (now sums)) ⌝ }
     requires { ⌜ Weighed (arriving t width arrival (now row) (now samples) (now sums)) 0 (now acc) ⌝ }
+    requires { ⌜ Dark (now zeros) ⌝ }
     ensures { λ f. ⌜ f ≡ firstNot (t .count) (λ k. all width (sumGood (arriving t width arrival (now (row .entry)) (now (samples .entry)) (now (sums .entry))) k)) ⌝ }
     ensures { λ f. ⌜ (t .count ≤ f → Weighed (arriving t width arrival (now (row .entry)) (now (samples .entry)) (now (sums .entry))) (t .count) (now (acc .exit))) ⌝ }
 {
     let count = t.count;
+    let mut line = [0u32; 1056];
+    let mut runs = [0u32; 1056];
     let mut k = 0;
     while k < count {
-        if !rectangle(acc, t, k, width, arrival, delay, samples, sums, row) {
+        if !rectangle(
+            acc,
+            &mut line,
+            &mut runs,
+            zeros,
+            t,
+            k,
+            width,
+            arrival,
+            delay,
+            samples,
+            sums,
+            row,
+        ) {
             return k;
         }
         k += 1;
@@ -148,39 +156,41 @@ pub fn values(
 }
 
 // Carries the sums of rectangle k.
-fn carry_rectangle(
+fn carry_rectangle<'a>(
     sums: &mut [u32],
+    zeros: &'a [u16],
     t: Table,
     k: usize,
     width: usize,
     arrival: usize,
     delay: usize,
-    samples: &[u16],
-    row: &[u16],
+    samples: &'a [u16],
+    row: &'a [u16],
 )
-    requires { ⌜ (acceptable t ≡ true) × (delay ≡ delayOf t) × (k < t .count) ⌝ }
+    requires { ⌜ (acceptable t ≡ true) × (delay ≡ delayOf t) × (k < t .count) × Dark (now zeros) ⌝ }
     requires { ⌜ Room t width arrival (length (now row)) (length (now samples)) (length (now sums)) ⌝ }
     requires { ⌜ T (all width (sumGood (arriving t width arrival (now row) (now samples) (now sums)) k)) ⌝ }
     ensures { λ _. ⌜ now (sums .exit) ≡ putMid (k * width) width (now (sums .entry)) (tab width (newSum (arriving t width arrival (now (row .entry)) (now (samples .entry)) (now (sums .entry))) k)) ⌝ }
 {
-    let mut off = [0u16; 1024];
-    let mut on = [0u16; 1024];
-    edges(&mut off, &mut on, t, k, width, arrival, delay, samples, row);
+    let d = t.rects[k];
+    let off = reached(samples, row, zeros, width, arrival, delay, d.trailrow);
+    let on = reached(samples, row, zeros, width, arrival, delay, d.leadrow);
     let at = k * width;
-    carry(&mut sums[at..at + width], &off, &on, width);
+    carry(&mut sums[at..at + width], off, on, width, t.q1);
 }
 
 // Carries the sums of every rectangle.
-pub fn carry_all(
+pub fn carry_all<'a>(
     sums: &mut [u32],
+    zeros: &'a [u16],
     t: Table,
     width: usize,
     arrival: usize,
     delay: usize,
-    samples: &[u16],
-    row: &[u16],
+    samples: &'a [u16],
+    row: &'a [u16],
 )
-    requires { ⌜ (acceptable t ≡ true) × (delay ≡ delayOf t) ⌝ }
+    requires { ⌜ (acceptable t ≡ true) × (delay ≡ delayOf t) × Dark (now zeros) ⌝ }
     requires { ⌜ Room t width arrival (length (now row)) (length (now samples)) (length (now sums)) ⌝ }
     requires { ⌜ T (all (t .count) (λ k. all width (sumGood (arriving t width arrival (now row) (now samples) (now sums)) k))) ⌝ }
     ensures { λ _. ⌜ now (sums .exit) ≡ sumsAfter (arriving t width arrival (now (row .entry)) (now (samples .entry)) (now (sums .entry))) ⌝ }
@@ -188,7 +198,7 @@ pub fn carry_all(
     let count = t.count;
     let mut k = 0;
     while k < count {
-        carry_rectangle(sums, t, k, width, arrival, delay, samples, row);
+        carry_rectangle(sums, zeros, t, k, width, arrival, delay, samples, row);
         k += 1;
     }
 }

@@ -1,7 +1,7 @@
 // The scan engine: a scan row by row, with the column sums carried along. The state is a value; samples, sums and the
 // filtered row stand in stores that are lent to each call. Everything is asked before anything is written.
 mod arrive;
-mod fetch;
+mod kept;
 mod rows;
 mod starts;
 mod state;

@@ -14,7 +14,7 @@ use crate::Scan;
 use crate::arrive::carry_all;
 use crate::arrive::values;
 use crate::arrive::write_row;
-use crate::fetch::cut_row;
+use crate::kept::keep_row;
 use crate::state::lent_good;
 use crate::state::state_good;
 use arith::power;
@@ -43,13 +43,14 @@ pub fn arrive(
     let arrival = (s.rows + s.steps) as usize;
     let d = delay(t) as usize;
     let mut acc = [2199023255552u64; 1024];
-    let failed = values(&mut acc, t, width, arrival, d, samples, sums, row);
+    let zeros = [0u16; 1024];
+    let failed = values(&mut acc, &zeros, t, width, arrival, d, samples, sums, row);
     if failed < t.count {
         return Verdict::Refused(19, failed as u32);
     }
-    carry_all(sums, t, width, arrival, d, samples, row);
+    carry_all(sums, &zeros, t, width, arrival, d, samples, row);
     let p = (arrival % 32) * width;
-    cut_row(&mut samples[p..p + width], row, width, 0);
+    keep_row(&mut samples[p..p + width], row, width);
     if d <= arrival {
         write_row(out, &acc, width, t.t);
     }

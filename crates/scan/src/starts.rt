@@ -7,7 +7,7 @@ ghost use Rattle.arith.specs.Tab.{tab};
 ghost use Rattle.scan.specs.Calls.{by, startSays, startScan, fresh, wiped, closeSays, shut};
 use crate::Scan;
 use crate::Started;
-use crate::fetch::wipe;
+use crate::kept::wipe;
 use crate::state::state_good;
 use crate::state::stores_good;
 use layout::Table;

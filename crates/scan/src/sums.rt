@@ -1,32 +1,42 @@
 // Column sums, carried along in two steps: the leaving sample off, then the entering one on.
 ghost use mathlib.Core.Path.{_≡_};
+ghost use mathlib.Core.Bool.{cond};
 ghost use mathlib.Core.List.{_++_};
-ghost use Prim.Native.Nat.{ℕ, _+_, _-_, _/_, _^_, _≤_, _<_, max};
+ghost use Prim.Native.Nat.{ℕ, _+_, _-_, _/_, _^_, _≤_, _<_};
+ghost use lib.Dec.{T, leb, eqb};
 ghost use lib.ListN.{length, getD, drop};
 ghost use Rattle.arith.specs.Tab.{tab};
 ghost use Rattle.arith.specs.All.{all};
-ghost use Rattle.scan.specs.Passes.{movable, movedSum};
+ghost use Rattle.scan.specs.Passes.{movable};
+use std::num::wrapping_add_u32;
+use std::num::wrapping_sub_u32;
 
-// The sum after both steps, or bound + 1 where the leaving sample is more than the stored sum or the result above the bound.
-fn moved(stored: u32, off: u16, on: u16, bound: u32) -> u32
-    requires { ⌜ bound ≤ 131071 ⌝ }
-    ensures { λ s. ⌜ s ≡ movedSum stored off on bound ⌝ }
+// 1 where a number is past a bound, else 0.
+fn past(n: u32, bound: u32) -> u32
+    ensures { λ r. ⌜ r ≡ cond (leb n bound) 0 1 ⌝ }
 {
-    if stored < off as u32 {
-        return bound + 1;
-    }
-    let s = stored as u64 - off as u64 + on as u64;
-    if s <= bound as u64 {
-        s as u32
-    } else {
-        bound + 1
-    }
+    if n <= bound { 0 } else { 1 }
 }
 
-fn larger(a: u32, b: u32) -> u32
-    ensures { λ m. ⌜ m ≡ max a b ⌝ }
+// A column sum after both steps, and how many of the two came out past the bound.
+struct Change {
+    sum: u32,
+    past: u32,
+}
+
+// Both steps of a column sum. A store may hold any number, so they wrap; a step that does comes out past the bound.
+fn moved(stored: u32, off: u16, on: u16, bound: u32) -> Change
+    requires { ⌜ bound ≤ 131071 ⌝ }
+    ensures { λ m. ⌜ eqb (m .past) 0 ≡ movable stored off on bound ⌝ }
+    ensures { λ m. ⌜ m .past ≤ 2 ⌝ }
+    ensures { λ m. ⌜ (T (movable stored off on bound) → m .sum ≡ stored - off + on) ⌝ }
 {
-    if a < b { b } else { a }
+    let less = wrapping_sub_u32(stored, off as u32);
+    let sum = wrapping_add_u32(less, on as u32);
+    Change {
+        sum,
+        past: past(less, bound) + past(sum, bound),
+    }
 }
 
 // The cut column sums of n columns into a line, and whether all of them passed question 19.
@@ -37,34 +47,35 @@ pub fn renew(
     on: &[u16],
     n: usize,
     bound: u32,
+    q1: u8,
     q2: u8,
 ) -> bool
     requires { ⌜ (n ≤ length (now line)) × (n ≤ length (now sums)) × (n ≤ length (now off)) × (n ≤ length (now on)) ⌝ }
-    requires { ⌜ (bound ≤ 131071) × (q2 ≤ 8) ⌝ }
-    ensures { λ g. ⌜ g ≡ all n (λ c. movable (getD (now (sums .entry)) c 0) (getD (now (off .entry)) c 0) (getD (now (on .entry)) c 0) bound) ⌝ }
-    ensures { λ _. ⌜ now (line .exit) ≡ tab n (λ c. movedSum (getD (now (sums .entry)) c 0) (getD (now (off .entry)) c 0) (getD (now (on .entry)) c 0) bound / 2 ^ q2) ++ drop n (now (line .entry)) ⌝ }
+    requires { ⌜ (bound ≤ 131071) × (n ≤ 1024) × (q1 ≤ 11) × (q2 ≤ 8) ⌝ }
+    ensures { λ g. ⌜ g ≡ all n (λ c. movable (getD (now (sums .entry)) c 0) (getD (now (off .entry)) c 0 / 2 ^ q1) (getD (now (on .entry)) c 0 / 2 ^ q1) bound) ⌝ }
+    ensures { λ g. ⌜ (T g → now (line .exit) ≡ tab n (λ c. (getD (now (sums .entry)) c 0 - getD (now (off .entry)) c 0 / 2 ^ q1 + getD (now (on .entry)) c 0 / 2 ^ q1) / 2 ^ q2) ++ drop n (now (line .entry))) ⌝ }
 {
-    let mut worst = 0;
+    let mut failed = 0;
     let mut c = 0;
     while c < n {
-        let s = moved(sums[c], off[c], on[c], bound);
-        worst = larger(worst, s);
-        line[c] = s >> q2;
+        let m = moved(sums[c], off[c] >> q1, on[c] >> q1, bound);
+        failed += m.past;
+        line[c] = m.sum >> q2;
         c += 1;
     }
-    worst <= bound
+    failed == 0
 }
 
 // The sums after both steps, in place.
-pub fn carry(sums: &mut [u32], off: &[u16], on: &[u16], n: usize)
-    requires { ⌜ (n ≤ length (now sums)) × (n ≤ length (now off)) × (n ≤ length (now on)) ⌝ }
-    requires { ⌜ ((c : ℕ) → c < n → getD (now off) c 0 ≤ getD (now sums) c 0) ⌝ }
-    requires { ⌜ ((c : ℕ) → c < n → getD (now sums) c 0 - getD (now off) c 0 + getD (now on) c 0 ≤ 131071) ⌝ }
-    ensures { λ _. ⌜ now (sums .exit) ≡ tab n (λ c. getD (now (sums .entry)) c 0 - getD (now (off .entry)) c 0 + getD (now (on .entry)) c 0) ++ drop n (now (sums .entry)) ⌝ }
+pub fn carry(sums: &mut [u32], off: &[u16], on: &[u16], n: usize, q1: u8)
+    requires { ⌜ (n ≤ length (now sums)) × (n ≤ length (now off)) × (n ≤ length (now on)) × (q1 ≤ 11) ⌝ }
+    requires { ⌜ ((c : ℕ) → c < n → getD (now off) c 0 / 2 ^ q1 ≤ getD (now sums) c 0) ⌝ }
+    requires { ⌜ ((c : ℕ) → c < n → getD (now sums) c 0 - getD (now off) c 0 / 2 ^ q1 + getD (now on) c 0 / 2 ^ q1 ≤ 131071) ⌝ }
+    ensures { λ _. ⌜ now (sums .exit) ≡ tab n (λ c. getD (now (sums .entry)) c 0 - getD (now (off .entry)) c 0 / 2 ^ q1 + getD (now (on .entry)) c 0 / 2 ^ q1) ++ drop n (now (sums .entry)) ⌝ }
 {
     let mut c = 0;
     while c < n {
-        sums[c] = sums[c] - off[c] as u32 + on[c] as u32;
+        sums[c] = sums[c] - (off[c] >> q1) as u32 + (on[c] >> q1) as u32;
         c += 1;
     }
 }

@@ -1,7 +1,8 @@
 use borrow.Rule.Slice.PartMut.{putMid}
 use native.Mathlib.Nat.{le-of-eq}
 use mathlib.Core.List.{_++_}
-use Rattle.scan.proofs.Places.{place-most}
+use Rattle.scan.proofs.Places.{kept-most, part-length}
+use Rattle.scan.proofs.Rectangles.{dark-none}
 use Rattle.scan.proofs.Taken.{says-19, says-yes, weighed-none, settles, settles-word, keeps}
 use Rattle.scan.specs.Passes.{Weighed, Room}
 use Rattle.scan.specs.Calls.{by, arrivalOf}
@@ -30,11 +31,11 @@ use Rattle.layout.proofs.delay.Reads as delay-reads
 use Rattle.scan.proofs.arrive.carry_all.Reads as carry-all-reads
 use Rattle.scan.proofs.arrive.values.Reads as values-reads
 use Rattle.scan.proofs.arrive.write_row.Reads as write-row-reads
-use Rattle.scan.proofs.fetch.cut_row.Reads as cut-row-reads
+use Rattle.scan.proofs.kept.keep_row.Reads as keep-row-reads
 
 -- the start of a call whose values were taken, and what arrived
 abbrev start : tie.After-values → tie.Start
-start c = c .before .before .before .before .before .before .before .before .before .before
+start c = c .before .before .before .before .before .before .before .before .before .before .before
 
 abbrev arrived : tie.After-values → Arrival
 arrived c = arrivalOf (start c .args .s) (start c .args .row .now) (start c .args .samples .now) (start c .args .sums .now)
@@ -58,15 +59,25 @@ place c = (start c .args .s .rows + start c .args .s .steps) % 32 * start c .arg
 
 place-end : (c : tie.After-values) → place c + start c .args .s .width ≤ length (start c .args .samples .now)
 place-end c =
-    let p = place-most (start c .args .s .rows + start c .args .s .steps) (start c .args .s .width) in
+    let p = kept-most (start c .args .s .rows + start c .args .s .steps) (start c .args .s .width) in
     let l = start c .pre .1 .0 .samples-long in
     omega arith
 
 place-small : (c : tie.After-values) → place c + start c .args .s .width ≤ 32768
 place-small c =
-    let p = place-most (start c .args .s .rows + start c .args .s .steps) (start c .args .s .width) in
+    let p = kept-most (start c .args .s .rows + start c .args .s .steps) (start c .args .s .width) in
     let l = start c .pre .1 .0 .width-most in
     omega arith
+
+-- the arriving row in its place
+kept : (m : tie.After-keep-row) → let w = m .before .before .before .before .before .before .before .before .before .before .before in
+    putMid (place w) (place w + start w .args .s .width - place w) (start w .args .samples .now) (m .keep-row .last .0) ≡ samplesAfter (arrived w)
+unfolding samplesAfter
+kept m =
+    let w = m .before .before .before .before .before .before .before .before .before .before .before in
+    let z = start w in
+    ap₂ (λ j ys. putMid (place w) j (z .args .samples .now) ys) (part-long (place w) (z .args .s .width)) (m .keep-row .ensures)
+    ∙ keeps (place w) (z .args .s .width) (z .args .row .now) (z .args .samples .now) (z .pre .1 .1 .0) (place-end w)
 
 -- src/rows.rt:43:20
 add-arrival : tie.Need-add-arrival
@@ -84,88 +95,99 @@ delay-requires c κs = search needs
 cast-d : tie.Need-cast-d
 cast-d c = search needs
 
--- src/rows.rt:46:25
+-- src/rows.rt:47:25
 slice-aggregate-values : tie.Need-slice-aggregate-values
 slice-aggregate-values c = search needs
 
--- src/rows.rt:46:9
+-- src/rows.rt:47:35
+slice-aggregate-values-2 : tie.Need-slice-aggregate-values-2
+slice-aggregate-values-2 c = search needs
+
+-- src/rows.rt:47:9
 values-requires : tie.Need-values-requires
-values-requires c κs = let z = c .before .before .before .before .before .before .before .before .before in
-    ((z .pre .0 .0, c .before .before .before .delay .ensures), (z .pre .1 .0, weighed-none (arrivalOf (z .args .s) (z .args .row .now) (z .args .samples .now) (z .args .sums .now)) (z .pre .1 .0 .width-most)))
+values-requires c κs = let z = c .before .before .before .before .before .before .before .before .before .before in
+    let v = arrivalOf (z .args .s) (z .args .row .now) (z .args .samples .now) (z .args .sums .now) in
+    ((z .pre .0 .0, c .before .before .before .before .delay .ensures), (z .pre .1 .0, (weighed-none v (z .pre .1 .0 .width-most), dark-none)))
 
--- src/rows.rt:48:37
-cast-t21 : tie.Need-cast-t21
-cast-t21 c = let z = start (c .before .before .before) in
-    let l = granted _ (z .pre .0 .0) .few in search (needs, l)
+-- src/rows.rt:49:37
+cast-t24 : tie.Need-cast-t24
+cast-t24 c = let z = start (c .before .before .before) in
+    let l = granted _ (z .pre .0 .0) .few in
+    search (needs, l)
 
--- src/rows.rt:48:9
+-- src/rows.rt:49:9
 same-length : tie.Need-same-length
 same-length c = search needs
 
--- src/rows.rt:48:9
+-- src/rows.rt:49:9
 same-length-2 : tie.Need-same-length-2
 same-length-2 c = search needs
 
--- src/rows.rt:48:9
+-- src/rows.rt:49:9
 returns : tie.Need-returns
 returns c = let w = c .before .before .before in
     let r = says-19 (arrived w) (w .values .result) (w .values .ensures .0) (c .if1 .taken) in
     (sym r, (rw r refl, (rw r refl, rw r refl)))
 
--- src/rows.rt:50:5
+-- src/rows.rt:51:21
+slice-aggregate-carry-all : tie.Need-slice-aggregate-carry-all
+slice-aggregate-carry-all c = search needs
+
+-- src/rows.rt:51:5
 carry-all-requires : tie.Need-carry-all-requires
-carry-all-requires c κs = let e = c .before .before in
+carry-all-requires c κs = let e = c .before .before .before in
     let w = e .before .before .before in
     let z = start w in
-    ((z .pre .0 .0, w .before .before .before .before .delay .ensures), (z .pre .1 .0, good e))
+    ((z .pre .0 .0, w .before .before .before .before .before .delay .ensures, dark-none), (z .pre .1 .0, good e))
 
--- src/rows.rt:51:13
+-- src/rows.rt:52:13
 mul-p : tie.Need-mul-p
-mul-p c = let l = place-small (c .before .before .before .before .before .before .before .before) in search (needs, l)
+mul-p c = let l = place-small (c .before .before .before .before .before .before .before .before .before) in search (needs, l)
 
--- src/rows.rt:52:29
-add-cut-row : tie.Need-add-cut-row
-add-cut-row c = let l = place-small (c .before .before .before .before .before .before .before .before) in search (needs, l)
+-- src/rows.rt:53:30
+add-keep-row : tie.Need-add-keep-row
+add-keep-row c = let l = place-small (c .before .before .before .before .before .before .before .before .before) in search (needs, l)
 
--- src/rows.rt:52:13
-mul-cut-row : tie.Need-mul-cut-row
-mul-cut-row c = let l = place-small (c .before .before .before .before .before .before .before .before) in search (needs, l)
+-- src/rows.rt:53:14
+mul-keep-row : tie.Need-mul-keep-row
+mul-keep-row c = let l = place-small (c .before .before .before .before .before .before .before .before .before) in search (needs, l)
 
--- src/rows.rt:52:13
-sub-cut-row : tie.Need-sub-cut-row
-sub-cut-row c = search needs
+-- src/rows.rt:53:14
+sub-keep-row : tie.Need-sub-keep-row
+sub-keep-row c = search needs
 
--- src/rows.rt:52:13
-part-cut-row-start : tie.Need-part-cut-row-start
-part-cut-row-start c = search needs
+-- src/rows.rt:53:14
+part-keep-row-start : tie.Need-part-keep-row-start
+part-keep-row-start c = search needs
 
--- src/rows.rt:52:13
-part-cut-row-end : tie.Need-part-cut-row-end
-part-cut-row-end c = place-end (c .before .before .before .before .before .before .before .before)
+-- src/rows.rt:53:14
+part-keep-row-end : tie.Need-part-keep-row-end
+part-keep-row-end c = place-end (c .before .before .before .before .before .before .before .before .before)
 
--- src/rows.rt:52:5
-cut-row-requires : tie.Need-cut-row-requires
-cut-row-requires c κs = let w = c .before .before .before .before .before .before .before .before .before in
+-- src/rows.rt:53:5
+keep-row-requires : tie.Need-keep-row-requires
+keep-row-requires c κs = let w = c .before .before .before .before .before .before .before .before .before .before in
     let z = start w in
-    let e = place-end w in
-    let d = length-drop (place w) (z .args .samples .now) in
-    let n = length-take-le (place w + z .args .s .width - place w) (drop (place w) (z .args .samples .now)) (omega arith) in
-    (omega arith, le-of-eq (sym (z .pre .1 .1 .0)), search needs)
+    (le-of-eq (sym (part-length (place w) (z .args .s .width) (z .args .samples .now) (place-end w))), le-of-eq (sym (z .pre .1 .1 .0)))
 
--- src/rows.rt:54:24
+-- src/rows.rt:55:24
 slice-aggregate-write-row : tie.Need-slice-aggregate-write-row
 slice-aggregate-write-row c = search needs
 
--- src/rows.rt:54:9
+-- src/rows.rt:55:9
 write-row-requires : tie.Need-write-row-requires
-write-row-requires c κs = let b = c .before .before .before .before .before .before .before .before .before .before in
-    let e = b .before .before in
+write-row-requires c κs = let e = c .before .before .before .before .before .before .before .before .before .before .before .before .before in
     let w = e .before .before .before in
     let z = start w in
     let v = arrived w in
     let a = w .values .ensures .1 (e .if1 .left) in
-    let f = granted _ (z .pre .0 .0) .few in
-    ((z .pre .1 .1 .1, omega arith), ((λ i h. let l = a .high i h in omega arith), settles-word v _ (z .pre .0 .0) (λ k l. all-at (v .table .count) (λ k. all (v .width) (sumGood v k)) (good e) k l) a))
+    let f = granted _ (z .pre .0 .0) .few in (
+      (z .pre .1 .1 .1, omega arith),
+      (
+        (λ i h. let l = a .high i h in omega arith),
+        settles-word v _ (z .pre .0 .0) (λ k l. all-at (v .table .count) (λ k. all (v .width) (sumGood v k)) (good e) k l) a,
+      ),
+    )
 
 -- src/rows.rt:26:1
 same-length-3 : tie.Need-same-length-3
@@ -186,16 +208,16 @@ returns-2 c = let o = c .before in
     let t = o .before .before .before in
     let m = t .before .before .before in
     let b = m .before .before .before .before in
-    let e = b .before .before .before in
+    let e = b .before .before .before .before in
     let w = e .before .before .before in
     let z = start w in
     let v = arrived w in
     let r = accepted e in
     let a = w .values .ensures .1 (e .if1 .left) in
-    let d = rw (w .before .before .before .before .delay .ensures) at (t .if2 .taken) in (
+    let d = rw (w .before .before .before .before .before .delay .ensures) at (t .if2 .taken) in (
       sym r,
       (
-        rw r (ap₂ (λ j ys. putMid (place w) j (z .args .samples .now) ys) (part-long (place w) (z .args .s .width)) (m .cut-row .ensures) ∙ keeps (place w) (z .args .s .width) (z .args .row .now) (z .args .samples .now) (z .pre .1 .1 .0) (place-end w)),
+        rw r (kept m),
         (
           rw r (b .carry-all .ensures),
           rw (r, le-ltb _ _ d) (o .write-row .ensures ∙ ap (λ l. l ++ drop (z .args .s .width) (z .args .out .now)) (tab-cong (z .args .s .width) (settles v _ a))),
@@ -216,17 +238,11 @@ returns-3 : tie.Need-returns-3
 unfolding samplesAfter outputAfter
 returns-3 c = let m = c .before .before .before in
     let b = m .before .before .before .before in
-    let e = b .before .before .before in
+    let e = b .before .before .before .before in
     let w = e .before .before .before in
-    let z = start w in
     let r = accepted e in
-    let d = rw (w .before .before .before .before .delay .ensures) at (c .if2 .left) in (
-      sym r,
-      (
-        rw r (ap₂ (λ j ys. putMid (place w) j (z .args .samples .now) ys) (part-long (place w) (z .args .s .width)) (m .cut-row .ensures) ∙ keeps (place w) (z .args .s .width) (z .args .row .now) (z .args .samples .now) (z .pre .1 .1 .0) (place-end w)),
-        (rw r (b .carry-all .ensures), rw (r, lt-ltb _ _ d) refl),
-      ),
-    )
+    let d = rw (w .before .before .before .before .before .delay .ensures) at (c .if2 .left) in
+    (sym r, (rw r (kept m), (rw r (b .carry-all .ensures), rw (r, lt-ltb _ _ d) refl)))
 
 pub arrive-spec : {M : Type 1} → statement M
 arrive-spec =
@@ -237,19 +253,21 @@ arrive-spec =
     delay-requires
     cast-d
     slice-aggregate-values
+    slice-aggregate-values-2
     values-requires
-    cast-t21
+    cast-t24
     same-length
     same-length-2
     returns
+    slice-aggregate-carry-all
     carry-all-requires
     mul-p
-    add-cut-row
-    mul-cut-row
-    sub-cut-row
-    part-cut-row-start
-    part-cut-row-end
-    cut-row-requires
+    add-keep-row
+    mul-keep-row
+    sub-keep-row
+    part-keep-row-start
+    part-keep-row-end
+    keep-row-requires
     slice-aggregate-write-row
     write-row-requires
     same-length-3

@@ -11,7 +11,7 @@ use Rattle.scan.proofs.starts.start.Statement.{statement}
 use Rattle.scan.proofs.starts.start.Tie as tie
 use Rattle.scan.proofs.starts.start.Reads as reads
 use Rattle.scan.proofs.starts.start.Lts as lts
-use Rattle.scan.proofs.fetch.wipe.Reads as wipe-reads
+use Rattle.scan.proofs.kept.wipe.Reads as wipe-reads
 use Rattle.scan.proofs.starts.begun.Reads as begun-reads
 use Rattle.scan.proofs.starts.start_asked.Reads as start-asked-reads
 use Rattle.scan.proofs.starts.wipe_sums.Reads as wipe-sums-reads

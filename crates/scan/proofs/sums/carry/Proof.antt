@@ -1,5 +1,5 @@
 use lib.ListN.{length-set}
-use mir.Facts.{fits-widen}
+use Rattle.scan.proofs.Moves.{cut-fits}
 use Rattle.arith.proofs.Passes.{pass-none, pass-next, pass-set}
 use native.Mathlib.Numerals.{add-one}
 use native.Mathlib.Omega.{arith}
@@ -7,7 +7,7 @@ use Rattle.arith.specs.Tab.{tab}
 use lib.ListN.{length, getD, drop}
 use mathlib.Core.Path.{_≡_, refl, ap, _∙_}
 use mathlib.Core.List.{List, _++_}
-use Prim.Native.Nat.{ℕ, _+_, _-_, _≤_}
+use Prim.Native.Nat.{ℕ, _+_, _-_, _/_, _^_, _≤_}
 use borrow.Author.Needs.{needs}
 use Rattle.scan.proofs.sums.carry.Statement.{statement}
 use Rattle.scan.proofs.sums.carry.Tie as tie
@@ -15,24 +15,24 @@ use Rattle.scan.proofs.sums.carry.Reads as reads
 use Rattle.scan.proofs.sums.carry.Lts as lts
 
 -- what place c comes to
-abbrev step : (sums off on : List ℕ) → ℕ → ℕ
-step sums off on c = getD sums c 0 - getD off c 0 + getD on c 0
+abbrev step : (sums off on : List ℕ) → (q1 c : ℕ) → ℕ
+step sums off on q1 c = getD sums c 0 - getD off c 0 / 2 ^ q1 + getD on c 0 / 2 ^ q1
 
 abbrev Inv-loop : tie.InvT-loop
-Inv-loop sums₀ off on n c₀ sums c =
-    (c ≤ n) × (sums ≡ tab c (step sums₀ off on) ++ drop c sums₀) × (length sums ≡ length sums₀) × (n ≤ length sums₀)
+Inv-loop sums₀ off on n q1 c₀ sums c =
+    (c ≤ n) × (sums ≡ tab c (step sums₀ off on q1) ++ drop c sums₀) × (length sums ≡ length sums₀) × (n ≤ length sums₀)
 
 abbrev μ-loop : tie.MeasureT-loop
-μ-loop sums₀ off on n c₀ sums c = n - c
+μ-loop sums₀ off on n q1 c₀ sums c = n - c
 
 -- a place that is not reached holds what it held
-place : (sums₀ off on : List ℕ) (c : ℕ) {sums : List ℕ} → sums ≡ tab c (step sums₀ off on) ++ drop c sums₀ → getD sums c 0 ≡ getD sums₀ c 0
-place sums₀ off on c e = ap (λ l. getD l c 0) e ∙ pass-next c (step sums₀ off on) sums₀ c 0 (omega arith)
+place : (sums₀ off on : List ℕ) (q1 c : ℕ) {sums : List ℕ} → sums ≡ tab c (step sums₀ off on q1) ++ drop c sums₀ → getD sums c 0 ≡ getD sums₀ c 0
+place sums₀ off on q1 c e = ap (λ l. getD l c 0) e ∙ pass-next c (step sums₀ off on q1) sums₀ c 0 (omega arith)
 
 -- src/sums.rt:66:5
 loop-holds : tie.Need-loop-holds Inv-loop μ-loop
 loop-holds c =
-    (search needs, pass-none (step (c .args .sums .now) (c .args .off .now) (c .args .on .now)) (c .args .sums .now), refl, c .pre .0 .0)
+    (search needs, pass-none (step (c .args .sums .now) (c .args .off .now) (c .args .on .now) (c .args .q1)) (c .args .sums .now), refl, c .pre .0 .0)
 
 -- src/sums.rt:67:19
 mul-sums : tie.Need-mul-sums Inv-loop μ-loop
@@ -50,9 +50,13 @@ mul-sums-2 c = search needs
 shared-slice-read-sums : tie.Need-shared-slice-read-sums Inv-loop μ-loop
 shared-slice-read-sums c = search needs
 
+-- src/sums.rt:59:30
+shr-sums : tie.Need-shr-sums Inv-loop μ-loop
+shr-sums c = search needs
+
 -- src/sums.rt:67:29
 cast-sums : tie.Need-cast-sums Inv-loop μ-loop
-cast-sums c = fits-widen tt (c .shared-slice-known .given (c .before .before .before .loop .c))
+cast-sums c = cut-fits _ (c .before .before .before .before .args .q1) (c .shared-slice-known .given (c .before .before .before .loop .c))
 
 -- src/sums.rt:67:19
 sub-sums : tie.Need-sub-sums Inv-loop μ-loop
@@ -60,7 +64,7 @@ sub-sums c =
     let s = c .before .before .before in
     let a = s .before .args in
     let k = s .loop .c in
-    rw (place (a .sums .now) (a .off .now) (a .on .now) k (s .loop .inv .1)) (s .before .pre .1 .0 k (c .before .before .loop-test .taken))
+    rw (place (a .sums .now) (a .off .now) (a .on .now) (a .q1) k (s .loop .inv .1)) (s .before .pre .1 .0 k (c .before .before .loop-test .taken))
 
 -- src/sums.rt:67:45
 mul-sums-3 : tie.Need-mul-sums-3 Inv-loop μ-loop
@@ -70,9 +74,13 @@ mul-sums-3 c = search needs
 shared-slice-read-sums-2 : tie.Need-shared-slice-read-sums-2 Inv-loop μ-loop
 shared-slice-read-sums-2 c = search needs
 
+-- src/sums.rt:59:54
+shr-sums-2 : tie.Need-shr-sums-2 Inv-loop μ-loop
+shr-sums-2 c = search needs
+
 -- src/sums.rt:67:45
 cast-sums-2 : tie.Need-cast-sums-2 Inv-loop μ-loop
-cast-sums-2 c = fits-widen tt (c .shared-slice-known2 .given (c .before .before .before .before .loop .c))
+cast-sums-2 c = cut-fits _ (c .before .before .before .before .before .args .q1) (c .shared-slice-known2 .given (c .before .before .before .before .loop .c))
 
 -- src/sums.rt:67:19
 add-sums : tie.Need-add-sums Inv-loop μ-loop
@@ -81,7 +89,7 @@ add-sums c =
     let a = s .before .args in
     let k = s .loop .c in
     let p = s .before .pre .1 .1 k (c .before .before .before .loop-test .taken) in
-    rw (place (a .sums .now) (a .off .now) (a .on .now) k (s .loop .inv .1)) (search (needs, p))
+    rw (place (a .sums .now) (a .off .now) (a .on .now) (a .q1) k (s .loop .inv .1)) (search (needs, p))
 
 -- src/sums.rt:67:9
 mul-sums-4 : tie.Need-mul-sums-4 Inv-loop μ-loop
@@ -106,9 +114,9 @@ loop-again c =
     let a = s .before .args in
     let h = s .loop .inv in
     let t = c .before .before .before .loop-test .taken in
-    let f = step (a .sums .now) (a .off .now) (a .on .now) in
+    let f = step (a .sums .now) (a .off .now) (a .on .now) (a .q1) in
     let k = s .loop .c in
-    (omega arith, rw (place (a .sums .now) (a .off .now) (a .on .now) k (h .1), h .1, add-one k) (pass-set k f (a .sums .now) 0 (omega arith)), length-set (s .loop .sums) k _ ∙ h .2, h .3)
+    (omega arith, rw (place (a .sums .now) (a .off .now) (a .on .now) (a .q1) k (h .1), h .1, add-one k) (pass-set k f (a .sums .now) 0 (omega arith)), length-set (s .loop .sums) k _ ∙ h .2, h .3)
 
 -- src/sums.rt:59:1
 same-length : tie.Need-same-length Inv-loop μ-loop
@@ -120,7 +128,7 @@ returns c =
     let a = c .before .before .args in
     let h = c .before .loop .inv in
     let e : c .before .loop .c ≡ a .n = omega arith in
-    h .1 ∙ ap (λ n. tab n (step (a .sums .now) (a .off .now) (a .on .now)) ++ drop n (a .sums .now)) e
+    h .1 ∙ ap (λ n. tab n (step (a .sums .now) (a .off .now) (a .on .now) (a .q1)) ++ drop n (a .sums .now)) e
 
 pub carry-spec : {M : Type 1} → statement M
 carry-spec =
@@ -133,10 +141,12 @@ carry-spec =
     slice-read-sums
     mul-sums-2
     shared-slice-read-sums
+    shr-sums
     cast-sums
     sub-sums
     mul-sums-3
     shared-slice-read-sums-2
+    shr-sums-2
     cast-sums-2
     add-sums
     mul-sums-4

@@ -1,5 +1,6 @@
-use Rattle.scan.proofs.Moves.{slide, first-in, placed-le, scaled-exact, part-le}
-use Rattle.scan.specs.Passes.{placed, scaledLine}
+use native.Mathlib.Nat.{le-trans}
+use Rattle.scan.proofs.Moves.{scaled-exact, part-le}
+use Rattle.scan.specs.Passes.{added}
 use Rattle.arith.proofs.Passes.{pass-none, pass-next, pass-set}
 use native.Mathlib.Numerals.{add-one}
 use native.Mathlib.Omega.{arith}
@@ -7,212 +8,130 @@ use Rattle.arith.specs.Tab.{tab}
 use lib.ListN.{length, getD, drop, length-set}
 use mathlib.Core.Path.{_≡_, refl, ap, _∙_}
 use mathlib.Core.List.{List, _++_}
-use Prim.Native.Nat.{ℕ, _+_, _-_, _*_, _≤_}
+use Prim.Native.Nat.{ℕ, _+_, _-_, _*_, _/_, _^_, _≤_, _<_}
 use borrow.Author.Needs.{needs}
 use Rattle.scan.proofs.window.add_window.Statement.{statement}
 use Rattle.scan.proofs.window.add_window.Tie as tie
 use Rattle.scan.proofs.window.add_window.Reads as reads
 use Rattle.scan.proofs.window.add_window.Lts as lts
-use Rattle.scan.proofs.window.first_sum.Reads as first-sum-reads
-
--- what place c comes to
-abbrev weighed : (acc line : List ℕ) → (base n q3 q above below : ℕ) → ℕ → ℕ
-weighed acc line base n q3 q above below c =
-    getD acc c 0 + above * scaledLine line base n q3 q c - below * scaledLine line base n q3 q c
+use Rattle.scan.proofs.window.with_part.Reads as with-part-reads
 
 abbrev Inv-loop : tie.InvT-loop
-Inv-loop acc₀ line base n width q3 q above below s₀ c₀ acc s c =
-    (c ≤ width) × (acc ≡ tab c (weighed acc₀ line base n q3 q above below) ++ drop c acc₀) × (length acc ≡ length acc₀) × (width ≤ length acc₀)
-    × (s ≡ placed line base n c)
+Inv-loop acc₀ low high n q3 q above below c₀ acc c = (c ≤ n) × (acc ≡ tab c (added acc₀ low high q3 q above below) ++ drop c acc₀) × (length acc ≡ length acc₀) × (n ≤ length acc₀)
 
 abbrev μ-loop : tie.MeasureT-loop
-μ-loop acc₀ line base n width q3 q above below s₀ c₀ acc s c = width - c
+μ-loop acc₀ low high n q3 q above below c₀ acc c = n - c
 
 -- a place that is not reached holds what it held
 place : (f : ℕ → ℕ) (acc₀ : List ℕ) (c : ℕ) {acc : List ℕ} → acc ≡ tab c f ++ drop c acc₀ → getD acc c 0 ≡ getD acc₀ c 0
 place f acc₀ c e = ap (λ l. getD l c 0) e ∙ pass-next c f acc₀ c 0 (omega arith)
 
--- src/window.rt:44:9
-first-sum-requires : tie.Need-first-sum-requires Inv-loop μ-loop
-first-sum-requires c κs = search needs
+-- what a window comes to at the place that the loop is at
+abbrev scaled : tie.At-loop Inv-loop μ-loop → ℕ
+scaled l = let a = l .before .before .before .before .args in (getD (a .high .now) (l .loop .c) 0 - getD (a .low .now) (l .loop .c) 0) / 2 ^ a .q3 * 2 ^ a .q
 
--- src/window.rt:46:5
+small : (l : tie.At-loop Inv-loop μ-loop) → l .loop .c < l .before .before .before .before .args .n → scaled l < 4194304
+small l t = l .before .before .before .before .pre .1 .1 .1 .0 (l .loop .c) t
+
+held : (l : tie.At-loop Inv-loop μ-loop) → getD (l .loop .acc) (l .loop .c) 0 ≡ getD (l .before .before .before .before .args .acc .now) (l .loop .c) 0
+held l =
+    let a = l .before .before .before .before .args in
+    place (added (a .acc .now) (a .low .now) (a .high .now) (a .q3) (a .q) (a .above) (a .below)) (a .acc .now) (l .loop .c) (l .loop .inv .1)
+
+-- src/window.rt:57:5
 loop-holds : tie.Need-loop-holds Inv-loop μ-loop
-loop-holds c =
-    let b = c .before .before .before in
-    let a = b .args in
-    let f = weighed (a .acc .now) (a .line .now) (a .base) (a .n) (a .q3) (a .q) (a .above) (a .below) in
-    (search needs, pass-none f (a .acc .now), refl, b .pre .0 .4, c .first-sum .ensures)
+loop-holds c = let s = c .before .before .before in
+    let a = s .args in
+    (search needs, pass-none (added (a .acc .now) (a .low .now) (a .high .now) (a .q3) (a .q) (a .above) (a .below)) (a .acc .now), refl, s .pre .0 .0)
 
--- src/window.rt:47:19
+-- src/window.rt:58:19
+mul-x : tie.Need-mul-x Inv-loop μ-loop
+mul-x c = search needs
+
+-- src/window.rt:58:19
+shared-slice-read-x : tie.Need-shared-slice-read-x Inv-loop μ-loop
+shared-slice-read-x c = search needs
+
+-- src/window.rt:58:29
+mul-x-2 : tie.Need-mul-x-2 Inv-loop μ-loop
+mul-x-2 c = search needs
+
+-- src/window.rt:58:29
+shared-slice-read-x-2 : tie.Need-shared-slice-read-x-2 Inv-loop μ-loop
+shared-slice-read-x-2 c = search needs
+
+-- src/window.rt:58:19
+sub-x : tie.Need-sub-x Inv-loop μ-loop
+sub-x c = let l = c .before .before .before in
+    l .before .before .before .before .pre .1 .1 .0 (l .loop .c) (c .before .before .loop-test .taken)
+
+-- src/window.rt:58:18
 shr-x : tie.Need-shr-x Inv-loop μ-loop
 shr-x c = search needs
 
--- src/window.rt:47:18
+-- src/window.rt:58:17
 shl-x : tie.Need-shl-x Inv-loop μ-loop
 shl-x c = search needs
 
--- src/window.rt:47:17
-cast-x : tie.Need-cast-x Inv-loop μ-loop
-cast-x c = search needs
+-- src/window.rt:59:28
+mul-with-part : tie.Need-mul-with-part Inv-loop μ-loop
+mul-with-part c = search needs
 
--- src/window.rt:48:18
+-- src/window.rt:59:28
+slice-read-with-part : tie.Need-slice-read-with-part Inv-loop μ-loop
+slice-read-with-part c = search needs
+
+-- src/window.rt:59:18
+with-part-requires : tie.Need-with-part-requires Inv-loop μ-loop
+with-part-requires c κs = let l = c .before .before .before .before in
+    let s = l .before .before .before .before in
+    let t = c .before .before .before .loop-test .taken in
+    let x = small l t in
+    let r = s .pre .1 .1 .1 .1 (l .loop .c) t in
+    let p = part-le (s .args .below) (scaled l) (s .pre .0 .6) x in
+    rw (scaled-exact (scaled l) x, held l) ((r .1, x, s .pre .0 .5, le-trans p (r .0)), s .pre .1 .0)
+
+-- src/window.rt:59:9
 mul-acc : tie.Need-mul-acc Inv-loop μ-loop
 mul-acc c = search needs
 
--- src/window.rt:48:18
-slice-read-acc : tie.Need-slice-read-acc Inv-loop μ-loop
-slice-read-acc c = search needs
-
--- src/window.rt:48:27
-mul-acc-2 : tie.Need-mul-acc-2 Inv-loop μ-loop
-mul-acc-2 c =
-    let s = c .before .before in
-    let b = s .before .before .before .before in
-    let a = b .args in
-    let k = s .loop .c in
-    let t = c .before .loop-test .taken in
-    let l = b .pre .1 .1 .1 .0 k t in
-    let x = scaled-exact (a .line .now) (a .base) (a .n) (a .q3) (a .q) k (s .loop .inv .4) l in
-    let p = part-le (a .above) (scaledLine (a .line .now) (a .base) (a .n) (a .q3) (a .q) k) (b .pre .1 .0 .2) l in
-    rw x (search (needs, p))
-
--- src/window.rt:48:18
-add-acc : tie.Need-add-acc Inv-loop μ-loop
-add-acc c =
-    let s = c .before .before in
-    let b = s .before .before .before .before in
-    let a = b .args in
-    let k = s .loop .c in
-    let t = c .before .loop-test .taken in
-    let l = b .pre .1 .1 .1 .0 k t in
-    let x = scaled-exact (a .line .now) (a .base) (a .n) (a .q3) (a .q) k (s .loop .inv .4) l in
-    let p = part-le (a .above) (scaledLine (a .line .now) (a .base) (a .n) (a .q3) (a .q) k) (b .pre .1 .0 .2) l in
-    let h = b .pre .1 .1 .1 .1 k t in
-    rw (x, place (weighed (a .acc .now) (a .line .now) (a .base) (a .n) (a .q3) (a .q) (a .above) (a .below)) (a .acc .now) k (s .loop .inv .1)) (search (needs, p, h))
-
--- src/window.rt:48:46
-mul-acc-3 : tie.Need-mul-acc-3 Inv-loop μ-loop
-mul-acc-3 c =
-    let s = c .before .before in
-    let b = s .before .before .before .before in
-    let a = b .args in
-    let k = s .loop .c in
-    let t = c .before .loop-test .taken in
-    let l = b .pre .1 .1 .1 .0 k t in
-    let x = scaled-exact (a .line .now) (a .base) (a .n) (a .q3) (a .q) k (s .loop .inv .4) l in
-    let p = part-le (a .below) (scaledLine (a .line .now) (a .base) (a .n) (a .q3) (a .q) k) (b .pre .1 .0 .3) l in
-    rw x (search (needs, p))
-
--- src/window.rt:48:18
-sub-acc : tie.Need-sub-acc Inv-loop μ-loop
-sub-acc c =
-    let s = c .before .before in
-    let b = s .before .before .before .before in
-    let a = b .args in
-    let k = s .loop .c in
-    let t = c .before .loop-test .taken in
-    let l = b .pre .1 .1 .1 .0 k t in
-    let x = scaled-exact (a .line .now) (a .base) (a .n) (a .q3) (a .q) k (s .loop .inv .4) l in
-    let p = part-le (a .below) (scaledLine (a .line .now) (a .base) (a .n) (a .q3) (a .q) k) (b .pre .1 .0 .3) l in
-    let h = b .pre .1 .1 .1 .1 k t in
-    rw (x, place (weighed (a .acc .now) (a .line .now) (a .base) (a .n) (a .q3) (a .q) (a .above) (a .below)) (a .acc .now) k (s .loop .inv .1)) (omega arith)
-
--- src/window.rt:48:9
-mul-acc-4 : tie.Need-mul-acc-4 Inv-loop μ-loop
-mul-acc-4 c = search needs
-
--- src/window.rt:48:9
+-- src/window.rt:59:9
 slice-write-acc : tie.Need-slice-write-acc Inv-loop μ-loop
 slice-write-acc c = search needs
 
--- src/window.rt:49:22
-add-s : tie.Need-add-s Inv-loop μ-loop
-add-s c = search needs
-
--- src/window.rt:49:17
-mul-s : tie.Need-mul-s Inv-loop μ-loop
-mul-s c = search needs
-
--- src/window.rt:49:17
-shared-slice-read-s : tie.Need-shared-slice-read-s Inv-loop μ-loop
-shared-slice-read-s c = search needs
-
--- src/window.rt:49:13
-sub-s : tie.Need-sub-s Inv-loop μ-loop
-sub-s c =
-    let s = c .before .before .before in
-    let b = s .before .before .before .before in
-    let a = b .args in
-    let f = first-in (a .line .now) (a .base) (a .n) (s .loop .c) (b .pre .0 .5) in
-    rw (s .loop .inv .4) f
-
--- src/window.rt:49:39
-add-s-2 : tie.Need-add-s-2 Inv-loop μ-loop
-add-s-2 c = search needs
-
--- src/window.rt:49:39
-add-s-3 : tie.Need-add-s-3 Inv-loop μ-loop
-add-s-3 c = search needs
-
--- src/window.rt:49:34
-mul-s-2 : tie.Need-mul-s-2 Inv-loop μ-loop
-mul-s-2 c = search needs
-
--- src/window.rt:49:34
-shared-slice-read-s-2 : tie.Need-shared-slice-read-s-2 Inv-loop μ-loop
-shared-slice-read-s-2 c = search needs
-
--- src/window.rt:49:13
-add-s-4 : tie.Need-add-s-4 Inv-loop μ-loop
-add-s-4 c =
-    let s = c .before .before .before .before in
-    let b = s .before .before .before .before in
-    let a = b .args in
-    let h = placed-le (a .line .now) (a .base) (a .n) (s .loop .c) (b .pre .1 .1 .0) (b .pre .0 .0) in
-    let n = b .pre .1 .1 .0 (a .base + s .loop .c + a .n) in
-    rw (s .loop .inv .4) (search (needs, h, n))
-
--- src/window.rt:50:9
+-- src/window.rt:60:9
 add-c : tie.Need-add-c Inv-loop μ-loop
 add-c c = search needs
 
--- src/window.rt:46:5
+-- src/window.rt:57:5
 loop-less : tie.Need-loop-less Inv-loop μ-loop
 loop-less c = search needs
 
--- src/window.rt:46:5
+-- src/window.rt:57:5
 loop-again : tie.Need-loop-again Inv-loop μ-loop
-loop-again c =
-    let s = c .before .before .before .before in
-    let b = s .before .before .before .before in
-    let a = b .args in
-    let k = s .loop .c in
-    let t = c .before .before .before .loop-test .taken in
-    let l = b .pre .1 .1 .1 .0 k t in
-    let x = scaled-exact (a .line .now) (a .base) (a .n) (a .q3) (a .q) k (s .loop .inv .4) l in
-    let f = weighed (a .acc .now) (a .line .now) (a .base) (a .n) (a .q3) (a .q) (a .above) (a .below) in
-    let h = s .loop .inv in
-    let d = first-in (a .line .now) (a .base) (a .n) k (b .pre .0 .5) in
-    let e = slide (a .line .now) (a .base) (a .n) k in (
+loop-again c = let l = c .before .before .before .before .before in
+    let s = l .before .before .before .before in
+    let a = s .args in
+    let h = l .loop .inv in
+    let k = l .loop .c in
+    let t = c .before .before .before .before .loop-test .taken in
+    let f = added (a .acc .now) (a .low .now) (a .high .now) (a .q3) (a .q) (a .above) (a .below) in (
       omega arith,
-      rw (x, place f (a .acc .now) k (h .1), h .1, add-one k) (pass-set k f (a .acc .now) 0 (omega arith)),
-      length-set (s .loop .acc) k _ ∙ h .2,
+      rw (c .with-part .ensures, scaled-exact (scaled l) (small l t), held l, h .1, add-one k) (pass-set k f (a .acc .now) 0 (omega arith)),
+      length-set (l .loop .acc) k _ ∙ h .2,
       h .3,
-      omega arith,
     )
 
--- src/window.rt:26:1
+-- src/window.rt:39:1
 same-length : tie.Need-same-length Inv-loop μ-loop
 same-length c = search needs
 
--- src/window.rt:26:1
+-- src/window.rt:39:1
 returns : tie.Need-returns Inv-loop μ-loop
-returns c =
-    let a = c .before .before .before .before .before .args in
+returns c = let a = c .before .before .before .before .before .args in
     let h = c .before .loop .inv in
-    let e : c .before .loop .c ≡ a .width = omega arith in
-    h .1 ∙ ap (λ n. tab n (weighed (a .acc .now) (a .line .now) (a .base) (a .n) (a .q3) (a .q) (a .above) (a .below)) ++ drop n (a .acc .now)) e
+    let e : c .before .loop .c ≡ a .n = omega arith in
+    h .1 ∙ ap (λ n. tab n (added (a .acc .now) (a .low .now) (a .high .now) (a .q3) (a .q) (a .above) (a .below)) ++ drop n (a .acc .now)) e
 
 pub add-window-spec : {M : Type 1} → statement M
 add-window-spec =
@@ -220,28 +139,19 @@ add-window-spec =
     (tie.spec
     Inv-loop
     μ-loop
-    first-sum-requires
     loop-holds
+    mul-x
+    shared-slice-read-x
+    mul-x-2
+    shared-slice-read-x-2
+    sub-x
     shr-x
     shl-x
-    cast-x
+    mul-with-part
+    slice-read-with-part
+    with-part-requires
     mul-acc
-    slice-read-acc
-    mul-acc-2
-    add-acc
-    mul-acc-3
-    sub-acc
-    mul-acc-4
     slice-write-acc
-    add-s
-    mul-s
-    shared-slice-read-s
-    sub-s
-    add-s-2
-    add-s-3
-    mul-s-2
-    shared-slice-read-s-2
-    add-s-4
     add-c
     loop-less
     loop-again

@@ -1,5 +1,5 @@
 use denote.Ref.{now}
-use Prim.Native.Nat.{ℕ, _-_, _/_, _^_, _≤_}
+use Prim.Native.Nat.{ℕ, _-_, _≤_}
 use native.Mathlib.Omega.{arith}
 use native.Mathlib.Numerals.{add-one}
 use mathlib.Core.Path.{_≡_, refl, ap, _∙_}
@@ -8,27 +8,23 @@ use lib.ListN.{length, getD, drop, set, length-set}
 use Rattle.arith.specs.Tab.{tab}
 use Rattle.arith.proofs.Passes.{pass-none, pass-set}
 use borrow.Author.Needs.{needs}
-use Rattle.scan.proofs.fetch.cut_row.Statement.{statement}
-use Rattle.scan.proofs.fetch.cut_row.Tie as tie
-use Rattle.scan.proofs.fetch.cut_row.Reads as reads
-use Rattle.scan.proofs.fetch.cut_row.Lts as lts
-
--- sample c, divided
-abbrev cuts : List ℕ → (q1 c : ℕ) → ℕ
-cuts from q1 c = getD from c 0 / 2 ^ q1
+use Rattle.scan.proofs.kept.keep_row.Statement.{statement}
+use Rattle.scan.proofs.kept.keep_row.Tie as tie
+use Rattle.scan.proofs.kept.keep_row.Reads as reads
+use Rattle.scan.proofs.kept.keep_row.Lts as lts
 
 abbrev Inv-loop : tie.InvT-loop
-Inv-loop to₀ from n q1 c₀ to c =
-    (c ≤ n) × (to ≡ tab c (cuts from q1) ++ drop c to₀) × (length to ≡ length to₀) × (n ≤ length to₀)
-    × (n ≤ length from)
+Inv-loop to₀ row n c₀ to c =
+    (c ≤ n) × (to ≡ tab c (λ k. getD row k 0) ++ drop c to₀) × (length to ≡ length to₀) × (n ≤ length to₀)
+    × (n ≤ length row)
 
 abbrev μ-loop : tie.MeasureT-loop
-μ-loop to₀ from n q1 c₀ to c = n - c
+μ-loop to₀ row n c₀ to c = n - c
 
 -- src/fetch.rt:28:5
 loop-holds : tie.Need-loop-holds Inv-loop μ-loop
 loop-holds c =
-    let a = c .args in (search needs, pass-none (cuts (now (a .from)) (a .q1)) (now (a .to)), refl, c .pre .0, c .pre .1)
+    let a = c .args in (search needs, pass-none (λ k. getD (now (a .row)) k 0) (now (a .to)), refl, c .pre .0, c .pre .1)
 
 -- src/fetch.rt:29:17
 mul-to : tie.Need-mul-to Inv-loop μ-loop
@@ -37,10 +33,6 @@ mul-to c = search needs
 -- src/fetch.rt:29:17
 shared-slice-read-to : tie.Need-shared-slice-read-to Inv-loop μ-loop
 shared-slice-read-to c = search needs
-
--- src/fetch.rt:29:17
-shr-to : tie.Need-shr-to Inv-loop μ-loop
-shr-to c = search needs
 
 -- src/fetch.rt:29:9
 mul-to-2 : tie.Need-mul-to-2 Inv-loop μ-loop
@@ -65,7 +57,7 @@ loop-again c =
     let a = l .before .args in
     let i = l .loop .inv in
     let n = l .loop .c in
-    let f = cuts (now (a .from)) (a .q1) in (
+    let f : ℕ → ℕ = λ k. getD (now (a .row)) k 0 in (
       search needs,
       rw add-one (ap (λ to. set to n (f n)) (i .1) ∙ pass-set n f (now (a .to)) 0 (omega arith)),
       length-set (l .loop .to) n (f n) ∙ i .2,
@@ -84,10 +76,10 @@ returns c =
     let a = l .before .args in
     let i = l .loop .inv in
     let e : l .loop .c ≡ a .n = omega arith in
-    i .1 ∙ ap (λ n. tab n (cuts (now (a .from)) (a .q1)) ++ drop n (now (a .to))) e
+    i .1 ∙ ap (λ n. tab n (λ k. getD (now (a .row)) k 0) ++ drop n (now (a .to))) e
 
-pub cut-row-spec : {M : Type 1} → statement M
-cut-row-spec =
+pub keep-row-spec : {M : Type 1} → statement M
+keep-row-spec =
     tie.close
     (tie.spec
     Inv-loop
@@ -95,7 +87,6 @@ cut-row-spec =
     loop-holds
     mul-to
     shared-slice-read-to
-    shr-to
     mul-to-2
     slice-write-to
     add-c

@@ -8,10 +8,10 @@ use lib.ListN.{length, drop, set, length-set}
 use Rattle.arith.specs.Tab.{tab}
 use Rattle.arith.proofs.Passes.{pass-none, pass-set}
 use borrow.Author.Needs.{needs}
-use Rattle.scan.proofs.fetch.wipe.Statement.{statement}
-use Rattle.scan.proofs.fetch.wipe.Tie as tie
-use Rattle.scan.proofs.fetch.wipe.Reads as reads
-use Rattle.scan.proofs.fetch.wipe.Lts as lts
+use Rattle.scan.proofs.kept.wipe.Statement.{statement}
+use Rattle.scan.proofs.kept.wipe.Tie as tie
+use Rattle.scan.proofs.kept.wipe.Reads as reads
+use Rattle.scan.proofs.kept.wipe.Lts as lts
 
 abbrev Inv-loop : tie.InvT-loop
 Inv-loop to₀ n c₀ to c =
