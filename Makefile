@@ -1,12 +1,16 @@
-# make test   the gate: every crate proved from nothing, every must-fail edit refused, every program run
-# make run    the table listing, on Table A
+# make test      the gate: the examples, the outside tests, then every crate proved from nothing, every must-fail edit refused, every program run
+# make run       the table listing, on Table A
+# make lib       build/libstrip.a and build/strip.h, for C
+# make examples  the header compiled as C and C++, the C example run
+# make outside   the library, through its C interface, beside a filter written separately from the papers
+# make bench     the engine's speed beside C loops
 
-.PHONY: test run kit
+.PHONY: test run lib examples outside bench kit
 
 kit:
 	@command -v rt >/dev/null 2>&1 || { echo "missing: rt, the command of the Rattle kit, is not on the PATH"; exit 2; }
 
-test: kit
+test: kit examples outside
 	@rt fmt --check
 	@rt ci
 
@@ -14,3 +18,23 @@ run: kit
 	@rt check listing >target.log 2>&1 || { cat target.log; rm -f target.log; exit 1; }
 	@rm -f target.log
 	@target/bin/listing <tables/a.table
+
+lib: build/libstrip.a build/strip.h
+
+build/libstrip.a: crates.txt $(shell find crates -name '*.rt' -o -name '*.antt') | kit
+	@rt staticlib capi >target.log 2>&1 || { cat target.log; rm -f target.log; exit 1; }
+	@rm -f target.log
+	@mkdir -p build && cp target/staticlib/libcapi.a $@
+
+build/strip.h: include/strip.h
+	@mkdir -p build && cp $< $@
+
+examples: lib
+	@examples/check.sh
+
+# `make outside STRIP_LIB_DIR=folder` takes another library.
+outside: lib
+	@$(if $(STRIP_LIB_DIR),STRIP_LIB_DIR=$(abspath $(STRIP_LIB_DIR)) )cargo run --release --offline --quiet --manifest-path tests/Cargo.toml
+
+bench: lib
+	@bench/run.sh

@@ -67,7 +67,7 @@ accepted-exactly t = (
 pub encode-injective : (c d : Contents) → T (within c) → T (within d) → encode c ≡ encode d → c ≡ d
 encode-injective c d p q e = same-contents (sym (load-read c p) ∙ ap loadOf e ∙ load-read d q)
 
--- L2: the number for C is 0 exactly when the file is accepted
+-- L2: the number of the check is 0 exactly when the file is accepted
 pub check-zero : (bs : List ℕ) → (said (verdictOf (loadOf bs)) .number ≡ 0) ↔ ((c : Contents) × (loadOf bs ≡ loaded c))
 check-zero bs = (go (loadOf bs) (load-numbers bs), λ h. rw (h .1))
   where

@@ -1,4 +1,4 @@
-// The table file: loading it, checking it for C, and writing it.
+// The table file: loading it, checking it, and writing it.
 mod loading;
 mod reading;
 mod writing;

@@ -123,9 +123,8 @@ pub fn load(bytes: &[u8]) -> Loaded
     }
 }
 
-// The check for C: 0 where the file is accepted, else the number of the refusal.
-#[no_mangle]
-pub extern "C" fn table_check(bytes: &[u8]) -> u32
+// The check: 0 where the file is accepted, else the number of the refusal.
+pub fn table_check(bytes: &[u8]) -> u32
     ensures { λ r. ⌜ r ≡ said (verdictOf (loadOf (now (bytes .entry)))) .number ⌝ }
 {
     let loaded = load(bytes);

@@ -1,0 +1,13 @@
+// The library for C: each call of the header include/strip.h, over the proved call that does the work.
+mod pixels;
+mod scans;
+mod tables;
+
+pub use pixels::strip_pixel;
+pub use scans::strip_scan_close;
+pub use scans::strip_scan_row;
+pub use scans::strip_scan_start;
+pub use scans::strip_scan_step;
+pub use tables::strip_table_check;
+pub use tables::strip_table_load;
+pub use tables::strip_table_write;

@@ -1,0 +1,176 @@
+/*
+ * strip: a rectangle filter for strip scanners.
+ *
+ * A scan is rows of `width` samples, read top to bottom. A table gives 1 to 16 rectangles, each with a signed weight. Each place of the
+ * scan yields one pixel: the weighted sum of the samples under the rectangles, shifted right by t and rounded downwards. Samples outside
+ * the scan count as zero.
+ *
+ * Link with build/libstrip.a; it needs memcpy and memset and nothing else, allocates nothing and keeps nothing between calls.
+ *
+ * What holds of every call:
+ *   - It accepts any numbers. Questions are asked in a fixed order, and the first no ends the call with that question's number and a
+ *     place. The numbers are in strip_refusal; the place is 0 but for STRIP_SAMPLE and STRIP_SUM.
+ *   - A refused call leaves every lent array as it was, and hands the scan back as it was, every byte of its fields.
+ *   - A pointer points to at least as many elements as the length after it says, aligned for its type; where that length is 0 it may be
+ *     null. The arrays lent to one call do not overlap.
+ *   - It ends, and does not write beyond the elements that its description names.
+ */
+#ifndef STRIP_H
+#define STRIP_H
+
+#include <stdbool.h>
+#include <stddef.h>
+#include <stdint.h>
+
+#ifdef __cplusplus
+extern "C" {
+#endif
+
+/* ---- numbers ---- */
+
+/* Limits and sizes. */
+#define STRIP_RECTS 16               /* rectangles of a table, 1 to 16 */
+#define STRIP_BITS_MOST 12           /* bits b of a sample, 1 to 12 */
+#define STRIP_WIDTH_MOST 1024        /* samples of a row, 1 to 1,024 */
+#define STRIP_ROWS_MOST 65535        /* rows of a scan, 0 to 65,535 */
+#define STRIP_DELAY_MOST 15          /* rows that a filtered row can be late, 0 to 15 */
+#define STRIP_KEPT_ROWS 32           /* rows in the sample store */
+#define STRIP_FILE_MOST 153          /* bytes of a table file: 9 + 9 * STRIP_RECTS */
+
+/* Elements that a scan of rows of `width` samples needs: in the sample store, and in the sum store with `rects` rectangles. The output
+   needs `width` elements. */
+#define STRIP_SAMPLES(width) (STRIP_KEPT_ROWS * (size_t)(width))
+#define STRIP_SUMS(rects, width) ((size_t)(rects) * (size_t)(width))
+
+/* The refusals. */
+typedef enum {
+    STRIP_OK = 0,              /* accepted: no refusal */
+
+    /* loading a table file */
+    STRIP_NO_HEADER = 1,       /* the file does not begin with 01 00 06 */
+    STRIP_CUT_OFF = 2,         /* a field's contents are not all present */
+    STRIP_BITS = 3,            /* b is not from 1 to 12 */
+    STRIP_DROPS = 4,           /* q1 is not below b, or q2 or q3 is above 8 */
+    STRIP_WORD = 5,            /* t is above 31, or w is not from 8 to 32 */
+    STRIP_TOO_MANY = 6,        /* a seventeenth rectangle */
+    STRIP_NO_FIELD = 7,        /* a further field does not begin with 02 00 06 */
+    STRIP_EDGES = 8,           /* a lead outside -15 to 15, a trail outside -16 to 14, or a trail not below its lead */
+    STRIP_NO_RECT = 9,         /* no rectangle */
+    STRIP_EXTREMES = 10,       /* the largest or the smallest value does not fit the pixel word */
+
+    /* tables, widths, arrays */
+    STRIP_TABLE = 11,          /* not a table that loading accepts */
+    STRIP_WIDTH = 12,          /* the width is not from 1 to 1,024 */
+    STRIP_TOO_SHORT = 13,      /* a store or an output is too short */
+
+    /* scans */
+    STRIP_STATE = 14,          /* the scan's numbers do not agree */
+    STRIP_CLOSED = 15,         /* the scan is closed; of a closing step: it is not */
+    STRIP_FULL = 16,           /* 65,535 rows are in */
+    STRIP_LENGTH = 17,         /* the row has not `width` samples; of strip_pixel: the length is not width times 1 to 65,535 */
+    STRIP_SAMPLE = 18,         /* a sample is above 2^b - 1; place: the lowest index of one */
+    STRIP_SUM = 19,            /* a column sum that cannot be: a store was altered between calls; place: the lowest rectangle, from 0 */
+    STRIP_OUTSIDE = 20         /* row or column outside the scan */
+} strip_refusal;
+
+/* The kinds of an answer. */
+typedef enum {
+    STRIP_REFUSED = 0,         /* refused: `number` and `place` say why */
+    STRIP_ROW = 1,             /* a filtered row is in the output: `number` is its row number */
+    STRIP_WAITING = 2,         /* taken in, and no filtered row is due yet: `number` is 0 */
+    STRIP_DONE = 3             /* all filtered rows are out (closing steps only): `number` is 0 */
+} strip_kind;
+
+/* ---- tables ---- */
+
+/* A rectangle. For the pixel at row r, column c it covers rows r + trailrow + 1 to r + leadrow and columns c + trailcol + 1 to
+   c + leadcol. */
+typedef struct {
+    int8_t leadrow, leadcol, trailrow, trailcol;
+    int16_t weight;
+} strip_rect;
+
+/* A table: b bits a sample, drops q1, q2 and q3, shift t, pixel word of w bits, and `count` rectangles. Slots from `count` on are no
+   part of it. */
+typedef struct {
+    uint8_t b, q1, q2, q3, t, w;
+    size_t count;
+    strip_rect rects[STRIP_RECTS];
+} strip_table;
+
+/* Checks the n bytes of a table file: 0, or the number of the refusal, 1 to 10. */
+uint32_t strip_table_check(const uint8_t *bytes, size_t n);
+
+typedef struct {
+    uint32_t refusal, place;
+    strip_table table;
+} strip_loaded;
+
+/* Loads the table of the n bytes of a file. refusal: 0, or 1 to 10. table: the table, with zeros in the unused slots; refused, a table
+   of zeros with no rectangle, which every call refuses with 11. */
+strip_loaded strip_table_load(const uint8_t *bytes, size_t n);
+
+typedef struct {
+    uint32_t refusal, place;
+    size_t length;
+} strip_written;
+
+/* Writes a table's file to the start of out, n bytes long. Asks 11, 13 (out is shorter than 9 + 9 * count). length: 9 + 9 * count, the
+   bytes written; refused, 0. Nothing beyond them is touched. */
+strip_written strip_table_write(strip_table table, uint8_t *out, size_t n);
+
+/* ---- scans ---- */
+
+/* A scan: its table and width, the rows that are in, the closing steps done, and whether it is closed. It is a value: hand each call the
+   one that the last call handed out. `samples` and `sums` are the caller's too; between two calls of a scan nobody writes to them. */
+typedef struct {
+    strip_table table;
+    size_t width;
+    uint32_t rows, steps;
+    bool closed;
+} strip_scan;
+
+typedef struct {
+    uint32_t refusal, place;
+    strip_scan scan;
+} strip_started;
+
+/* Starts a scan of rows of `width` samples. Asks 11, 12, 13 (n below 32 * width or m below count * width). Accepted, it sets the first
+   32 * width samples and count * width sums to zero and touches nothing beyond. Refused, the scan handed out has width 0, and every
+   call refuses it with 14. */
+strip_started strip_scan_start(strip_table table, size_t width, uint16_t *samples, size_t n, uint32_t *sums, size_t m);
+
+/* Closes a scan: no row follows, and closing steps fetch the filtered rows still due. Asks 14, 15. */
+strip_started strip_scan_close(strip_scan scan);
+
+typedef struct {
+    uint32_t kind, number, place;   /* kind: a strip_kind */
+    strip_scan scan;
+} strip_answer;
+
+/* Takes in a row of k samples. Asks 14, 15, 16, 17 (k is not width), 13 (a store, or o below width), 18, 19. Row r comes out with the
+   arrival of row r + D, D the largest lead row of the table or 0: kind is STRIP_ROW with number r, and the first `width` elements of
+   out hold the filtered row. Until then kind is STRIP_WAITING and out is not touched. scan: the scan with one row more. */
+strip_answer strip_scan_row(strip_scan scan, const uint16_t *row, size_t k, uint16_t *samples, size_t n, uint32_t *sums, size_t m, int32_t *out, size_t o);
+
+/* A closing step: as a row of zeros, after strip_scan_close. Asks 14, 15 (the scan is not closed); where D steps are past kind is
+   STRIP_DONE and nothing changes; then 13, 19. Call it until STRIP_DONE: a scan of H rows has then given H filtered rows. scan: the scan
+   with one step more. */
+strip_answer strip_scan_step(strip_scan scan, uint16_t *samples, size_t n, uint32_t *sums, size_t m, int32_t *out, size_t o);
+
+/* ---- one pixel ---- */
+
+typedef struct {
+    uint32_t refusal, place;
+    int32_t value;
+} strip_pixel_answer;
+
+/* The pixel at row r, column c of a scan lent whole: n samples, row after row. Asks 11, 12, 17, 20, 18 (of all n samples). value: the
+   pixel, the same that the scan calls give; refused, 0. */
+strip_pixel_answer strip_pixel(strip_table table, size_t width, const uint16_t *samples, size_t n, size_t r, size_t c);
+
+#ifdef __cplusplus
+}
+#endif
+
+#endif

@@ -1,0 +1,250 @@
+//! Table files: check, load, and writing back what was loaded.
+
+use crate::ffi::{self, Rect, Table};
+use crate::gen;
+use crate::rng::Rng;
+use crate::table::{self, FIELD};
+use crate::tally::{holds, same, Outcome, Tally};
+
+/// Asks check and load for a file, and writes it back if it is accepted. Answers the number.
+fn ask(tally: &mut Tally, bytes: &[u8]) -> Result<u32, String> {
+    let told = |wrong: String| format!("file {bytes:02x?}: {wrong}");
+    let papers = table::loaded(bytes);
+    let number = ffi::table_check(bytes);
+    same("check", &number, &papers.refusal).map_err(told)?;
+    tally.answered("check", number);
+    let library = ffi::table_load(bytes);
+    same("load", &library, &papers).map_err(told)?;
+    tally.answered("load", number);
+    if number == 0 {
+        written_back(tally, bytes, &library.table).map_err(told)?;
+    }
+    Ok(number)
+}
+
+fn written_back(tally: &mut Tally, bytes: &[u8], loaded: &Table) -> Outcome {
+    let mut out = vec![0xa5; bytes.len()];
+    let written = ffi::table_write(loaded, &mut out);
+    same("number of write", &written.refusal, &0)?;
+    same("length of write", &written.length, &bytes.len())?;
+    same("file written back", &out.as_slice(), &bytes)?;
+    tally.answered("write", 0);
+    tally.saw("file written back");
+    tally.saw_if("sixteen rectangles loaded", loaded.count == 16);
+    Ok(())
+}
+
+/// A header and a list of rectangles of any length, within the limits or not.
+struct Draft {
+    head: [u8; 6],
+    rects: Vec<Rect>,
+}
+
+impl Draft {
+    fn of(table: &Table) -> Draft {
+        Draft {
+            head: table::head_of(table),
+            rects: table::rects(table).to_vec(),
+        }
+    }
+
+    fn bytes(&self) -> Vec<u8> {
+        table::file(self.head, &self.rects)
+    }
+
+    /// Sets one number to a limit or just past it.
+    fn push(&mut self, rng: &mut Rng) {
+        match rng.below(9) {
+            0 => self.head[0] = rng.pick(&[0, 1, 12, 13, 128, 255]),
+            1 => self.head[1] = rng.pick(&[0, self.head[0].wrapping_sub(1), self.head[0], 12, 255]),
+            2 => self.head[2] = rng.pick(&[0, 8, 9, 255]),
+            3 => self.head[3] = rng.pick(&[0, 8, 9, 255]),
+            4 => self.head[4] = rng.pick(&[0, 31, 32, 255]),
+            5 => self.head[5] = rng.pick(&[0, 7, 8, 32, 33, 255]),
+            6 => self.recount(rng),
+            _ => self.push_rect(rng),
+        }
+    }
+
+    /// Sets the number of rectangles to 0, 1, 15, 16, 17 or 18.
+    fn recount(&mut self, rng: &mut Rng) {
+        let count = rng.pick(&[0, 1, 15, 16, 17, 18]);
+        let first = self.rects.first().copied().unwrap_or_default();
+        self.rects.resize(count, first);
+    }
+
+    fn push_rect(&mut self, rng: &mut Rng) {
+        if self.rects.is_empty() {
+            return;
+        }
+        let k = rng.below(self.rects.len());
+        let rect = &mut self.rects[k];
+        match rng.below(5) {
+            0 => rect.leadrow = lead(rng, rect.trailrow),
+            1 => rect.leadcol = lead(rng, rect.trailcol),
+            2 => rect.trailrow = trail(rng, rect.leadrow),
+            3 => rect.trailcol = trail(rng, rect.leadcol),
+            _ => rect.weight = rng.pick(&[i16::MIN, i16::MIN + 1, -1, 0, 1, 255, 256, i16::MAX]),
+        }
+    }
+}
+
+fn lead(rng: &mut Rng, trail: i8) -> i8 {
+    let next = trail.saturating_add(1);
+    rng.pick(&[15, 16, -15, -16, 127, -128, trail, next])
+}
+
+fn trail(rng: &mut Rng, lead: i8) -> i8 {
+    let next = lead.saturating_sub(1);
+    rng.pick(&[-16, -17, 14, 15, 127, -128, lead, next])
+}
+
+/// An accepted table, with up to three numbers moved to a limit or past it.
+pub fn limits(rng: &mut Rng, tally: &mut Tally, _: u64) -> Outcome {
+    let clean = gen::clean_table(rng);
+    let mut draft = Draft::of(&clean);
+    let pushes = rng.pick(&[0, 1, 1, 1, 1, 1, 2, 3]);
+    for _ in 0..pushes {
+        draft.push(rng);
+    }
+    let number = ask(tally, &draft.bytes())?;
+    tally.saw_if("several faults in one file", pushes > 1 && number != 0);
+    holds("an accepted draft loads", pushes > 0 || number == 0)
+}
+
+/// The largest total weight × area on one side that question 10 lets pass.
+fn largest_total(table: &Table, positive: bool) -> i64 {
+    let end = 1i64 << (table.w - 1 + table.t);
+    let largest = i64::from(table::largest_sample(table));
+    if positive {
+        ((1i64 << table.t) * (1i64 << (table.w - 1)) - 1) / largest
+    } else {
+        end / largest
+    }
+}
+
+/// Rectangles of area 961 and 1 with a given total weight × area, at most 16 of them.
+fn rects_of_total(mut total: i64) -> Vec<Rect> {
+    let square = |lead, trail, weight: i64| Rect {
+        leadrow: lead,
+        leadcol: lead,
+        trailrow: trail,
+        trailcol: trail,
+        weight: weight as i16,
+    };
+    let mut rects = Vec::new();
+    while total / 961 != 0 {
+        let weight = (total / 961).clamp(-32768, 32767);
+        rects.push(square(15, -16, weight));
+        total -= weight * 961;
+    }
+    rects.push(square(0, -1, total));
+    rects
+}
+
+/// A table whose extreme on one side lies just within the word, or just past it.
+pub fn question_10(rng: &mut Rng, tally: &mut Tally, _: u64) -> Outcome {
+    let mut table = Table {
+        b: rng.range(1, 12) as u8,
+        w: rng.range(8, 32) as u8,
+        t: rng.range(0, 31) as u8,
+        ..Table::default()
+    };
+    table.q1 = rng.range(0, i64::from(table.b) - 1) as u8;
+    table.q2 = rng.range(0, 8) as u8;
+    let positive = rng.one_in(2);
+    while largest_total(&table, positive) > 14 * 961 * 32_767 {
+        if table.t > 0 {
+            table.t -= 1;
+        } else {
+            table.w -= 1;
+        }
+    }
+    while largest_total(&table, positive) < 2 {
+        table.w += 1;
+    }
+    let past = rng.range(-1, 1);
+    let total = largest_total(&table, positive) + past;
+    let mut rects = rects_of_total(if positive { total } else { -total });
+    if rects.len() < 16 && rng.one_in(2) {
+        // A little on the other side, which has its own sum.
+        let weight = if positive { -1 } else { 1 };
+        rects.push(Rect { weight, ..rects[0] });
+    }
+    let number = ask(tally, &table::file(table::head_of(&table), &rects))?;
+    tally.saw_if("10 just passed", past == 0);
+    tally.saw_if("10 just missed", past == 1);
+    same(
+        "question 10 at its edge",
+        &number,
+        &if past == 1 { 10 } else { 0 },
+    )
+}
+
+/// One place of a file damaged.
+fn damage(rng: &mut Rng, bytes: &mut Vec<u8>) {
+    let at = rng.below(bytes.len() + 1);
+    let field = rng.below(bytes.len() / FIELD + 1) * FIELD;
+    match rng.below(8) {
+        0 => bytes.insert(at, rng.next() as u8),
+        1 if at < bytes.len() => drop(bytes.remove(at)),
+        2 if at < bytes.len() => bytes[at] = rng.next() as u8,
+        3 if field + 3 <= bytes.len() => {
+            let byte = field + rng.below(3);
+            bytes[byte] = rng.pick(&[0, 1, 2, 3, 5, 6, 7, 255]);
+        }
+        4 => bytes.truncate(at),
+        5 => append(rng, bytes),
+        6 if field + FIELD <= bytes.len() => {
+            let copy: Vec<u8> = bytes[field..field + FIELD].to_vec();
+            bytes.extend(copy);
+        }
+        _ => bytes.rotate_left(at.min(FIELD)),
+    }
+}
+
+/// Bytes behind the last field: a part of a field, a second header, zeros, anything.
+fn append(rng: &mut Rng, bytes: &mut Vec<u8>) {
+    let rect = table::mark(2, table::rect_contents(&gen::rect(rng)));
+    let tail = match rng.below(4) {
+        0 => rect[..rng.below(FIELD) + 1].to_vec(),
+        1 => table::mark(1, [8, 0, 0, 0, 0, 32]).to_vec(),
+        2 => vec![0; rng.below(12) + 1],
+        _ => (0..rng.below(12) + 1).map(|_| rng.next() as u8).collect(),
+    };
+    bytes.extend(tail);
+}
+
+/// A file with one to three damages, or a few bytes of no file at all.
+pub fn damaged(rng: &mut Rng, tally: &mut Tally, _: u64) -> Outcome {
+    if rng.one_in(10) {
+        let few = rng.below(30);
+        let bytes: Vec<u8> = (0..few).map(|_| rng.pick(&[0, 1, 2, 6, 8, 16])).collect();
+        return ask(tally, &bytes).map(drop);
+    }
+    let clean = gen::clean_table(rng);
+    let mut draft = Draft::of(&clean);
+    if rng.one_in(3) {
+        draft.push(rng);
+    }
+    let mut bytes = draft.bytes();
+    for _ in 0..rng.below(3) + 1 {
+        damage(rng, &mut bytes);
+    }
+    ask(tally, &bytes).map(drop)
+}
+
+/// Every part of a file from its start; the bytes after the part are still in memory.
+pub fn truncated(rng: &mut Rng, tally: &mut Tally, index: u64) -> Outcome {
+    let table = gen::table_of(rng, index as usize % 16 + 1);
+    let mut draft = Draft::of(&table);
+    if rng.one_in(3) {
+        draft.push(rng);
+    }
+    let mut bytes = draft.bytes();
+    append(rng, &mut bytes);
+    for cut in 0..=bytes.len() {
+        ask(tally, &bytes[..cut])?;
+    }
+    Ok(())
+}

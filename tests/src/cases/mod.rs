@@ -1,0 +1,47 @@
+//! The kinds of case, and how many of each are run.
+
+mod altered;
+mod files;
+mod long;
+mod pixels;
+mod scans;
+mod states;
+mod strips;
+mod values;
+
+use crate::rng::Rng;
+use crate::tally::{Outcome, Tally};
+
+pub struct Kind {
+    pub name: &'static str,
+    pub count: u64,
+    /// Runs one case; the last argument counts the cases of this kind.
+    pub run: fn(&mut Rng, &mut Tally, u64) -> Outcome,
+}
+
+const fn kind(
+    name: &'static str,
+    count: u64,
+    run: fn(&mut Rng, &mut Tally, u64) -> Outcome,
+) -> Kind {
+    Kind { name, count, run }
+}
+
+/// Cases are numbered through in this order.
+pub const KINDS: [Kind; 15] = [
+    kind("strips of the paper", strips::COUNT, strips::case),
+    kind("files at the limits", 60_000, files::limits),
+    kind("files at question 10", 10_000, files::question_10),
+    kind("damaged files", 60_000, files::damaged),
+    kind("files cut at every byte", 1_000, files::truncated),
+    kind("tables by value", 40_000, values::written),
+    kind("starts", 15_000, values::started),
+    kind("pixels", 40_000, pixels::case),
+    kind("pixels of tall scans", 40, pixels::tall),
+    kind("scans", 30_000, scans::small),
+    kind("scans of wide rows", 300, scans::wide),
+    kind("altered stores", 20_000, altered::case),
+    kind("states by hand", 30_000, states::any),
+    kind("states near the last row", 4_000, states::near_the_end),
+    kind("scans past the last row", 3, long::case),
+];

@@ -1,0 +1,215 @@
+//! The C interface: the structs of include/strip.h, its functions, and a safe call for each.
+
+use std::ptr;
+
+#[repr(C)]
+#[derive(Clone, Copy, Debug, Default, PartialEq, Eq)]
+pub struct Rect {
+    pub leadrow: i8,
+    pub leadcol: i8,
+    pub trailrow: i8,
+    pub trailcol: i8,
+    pub weight: i16,
+}
+
+/// Equality takes in the slots from the count on: what is handed back untouched is so in every slot.
+#[repr(C)]
+#[derive(Clone, Copy, Debug, Default, PartialEq, Eq)]
+pub struct Table {
+    pub b: u8,
+    pub q1: u8,
+    pub q2: u8,
+    pub q3: u8,
+    pub t: u8,
+    pub w: u8,
+    pub count: usize,
+    pub rects: [Rect; 16],
+}
+
+#[repr(C)]
+#[derive(Clone, Copy, Debug, Default, PartialEq, Eq)]
+pub struct Scan {
+    pub table: Table,
+    pub width: usize,
+    pub rows: u32,
+    pub steps: u32,
+    pub closed: bool,
+}
+
+#[repr(C)]
+#[derive(Clone, Copy, Debug, PartialEq, Eq)]
+pub struct Loaded {
+    pub refusal: u32,
+    pub place: u32,
+    pub table: Table,
+}
+
+#[repr(C)]
+#[derive(Clone, Copy, Debug, PartialEq, Eq)]
+pub struct Written {
+    pub refusal: u32,
+    pub place: u32,
+    pub length: usize,
+}
+
+#[repr(C)]
+#[derive(Clone, Copy, Debug, PartialEq, Eq)]
+pub struct Started {
+    pub refusal: u32,
+    pub place: u32,
+    pub scan: Scan,
+}
+
+/// What `kind` of an answer may be.
+pub const REFUSED: u32 = 0;
+pub const ROW: u32 = 1;
+pub const WAITING: u32 = 2;
+pub const DONE: u32 = 3;
+
+#[repr(C)]
+#[derive(Clone, Copy, Debug, PartialEq, Eq)]
+pub struct Answer {
+    pub kind: u32,
+    pub number: u32,
+    pub place: u32,
+    pub scan: Scan,
+}
+
+#[repr(C)]
+#[derive(Clone, Copy, Debug, PartialEq, Eq)]
+pub struct PixelAnswer {
+    pub refusal: u32,
+    pub place: u32,
+    pub value: i32,
+}
+
+extern "C" {
+    fn strip_table_check(bytes: *const u8, n: usize) -> u32;
+    fn strip_table_load(bytes: *const u8, n: usize) -> Loaded;
+    fn strip_table_write(table: Table, out: *mut u8, n: usize) -> Written;
+    fn strip_scan_start(
+        table: Table,
+        width: usize,
+        samples: *mut u16,
+        n: usize,
+        sums: *mut u32,
+        m: usize,
+    ) -> Started;
+    fn strip_scan_close(scan: Scan) -> Started;
+    fn strip_scan_row(
+        scan: Scan,
+        row: *const u16,
+        k: usize,
+        samples: *mut u16,
+        n: usize,
+        sums: *mut u32,
+        m: usize,
+        out: *mut i32,
+        o: usize,
+    ) -> Answer;
+    fn strip_scan_step(
+        scan: Scan,
+        samples: *mut u16,
+        n: usize,
+        sums: *mut u32,
+        m: usize,
+        out: *mut i32,
+        o: usize,
+    ) -> Answer;
+    fn strip_pixel(
+        table: Table,
+        width: usize,
+        samples: *const u16,
+        n: usize,
+        r: usize,
+        c: usize,
+    ) -> PixelAnswer;
+}
+
+// Each call below lends slices for its own length of time, which is all that the C functions ask. An empty one is lent as
+// a null pointer, which the header allows.
+
+fn lent<T>(slice: &[T]) -> *const T {
+    if slice.is_empty() {
+        ptr::null()
+    } else {
+        slice.as_ptr()
+    }
+}
+
+fn lent_mut<T>(slice: &mut [T]) -> *mut T {
+    if slice.is_empty() {
+        ptr::null_mut()
+    } else {
+        slice.as_mut_ptr()
+    }
+}
+
+pub fn table_check(bytes: &[u8]) -> u32 {
+    unsafe { strip_table_check(lent(bytes), bytes.len()) }
+}
+
+pub fn table_load(bytes: &[u8]) -> Loaded {
+    unsafe { strip_table_load(lent(bytes), bytes.len()) }
+}
+
+pub fn table_write(table: &Table, out: &mut [u8]) -> Written {
+    unsafe { strip_table_write(*table, lent_mut(out), out.len()) }
+}
+
+pub fn scan_start(table: &Table, width: usize, samples: &mut [u16], sums: &mut [u32]) -> Started {
+    unsafe {
+        strip_scan_start(
+            *table,
+            width,
+            lent_mut(samples),
+            samples.len(),
+            lent_mut(sums),
+            sums.len(),
+        )
+    }
+}
+
+pub fn scan_close(scan: &Scan) -> Started {
+    unsafe { strip_scan_close(*scan) }
+}
+
+pub fn scan_row(
+    scan: &Scan,
+    row: &[u16],
+    samples: &mut [u16],
+    sums: &mut [u32],
+    out: &mut [i32],
+) -> Answer {
+    unsafe {
+        strip_scan_row(
+            *scan,
+            lent(row),
+            row.len(),
+            lent_mut(samples),
+            samples.len(),
+            lent_mut(sums),
+            sums.len(),
+            lent_mut(out),
+            out.len(),
+        )
+    }
+}
+
+pub fn scan_step(scan: &Scan, samples: &mut [u16], sums: &mut [u32], out: &mut [i32]) -> Answer {
+    unsafe {
+        strip_scan_step(
+            *scan,
+            lent_mut(samples),
+            samples.len(),
+            lent_mut(sums),
+            sums.len(),
+            lent_mut(out),
+            out.len(),
+        )
+    }
+}
+
+pub fn pixel(table: &Table, width: usize, samples: &[u16], r: usize, c: usize) -> PixelAnswer {
+    unsafe { strip_pixel(*table, width, lent(samples), samples.len(), r, c) }
+}

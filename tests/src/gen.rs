@@ -1,0 +1,210 @@
+//! Random tables, rows and files.
+
+use crate::ffi::{Rect, Table};
+use crate::rng::Rng;
+use crate::table::{self, columns, extremes, fits, rows};
+
+/// A lead and a trail within the limits.
+fn edges(rng: &mut Rng) -> (i8, i8) {
+    let (lead, trail) = match rng.below(6) {
+        0 => (1, -2),
+        1 => (15, -16),
+        2 => {
+            let lead = rng.range(-15, 15);
+            (lead, lead - 1)
+        }
+        3 => {
+            let lead = rng.range(-15, 0);
+            (lead, rng.range(-16, lead - 1))
+        }
+        4 => {
+            let lead = rng.range(-15, 15);
+            (lead, rng.range((lead - 5).max(-16), lead - 1))
+        }
+        _ => {
+            let lead = rng.range(-15, 15);
+            (lead, rng.range(-16, lead - 1))
+        }
+    };
+    (lead as i8, trail as i8)
+}
+
+fn weight(rng: &mut Rng) -> i16 {
+    match rng.below(8) {
+        0 => 0,
+        1 => rng.pick(&[i16::MIN, i16::MAX]),
+        2 | 3 => rng.range(-9, 9) as i16,
+        4 | 5 => rng.range(-300, 300) as i16,
+        _ => rng.next() as i16,
+    }
+}
+
+pub fn rect(rng: &mut Rng) -> Rect {
+    let (leadrow, trailrow) = edges(rng);
+    let (leadcol, trailcol) = edges(rng);
+    Rect {
+        leadrow,
+        leadcol,
+        trailrow,
+        trailcol,
+        weight: weight(rng),
+    }
+}
+
+/// Any six bytes as a rectangle.
+pub fn any_rect(rng: &mut Rng) -> Rect {
+    let bits = rng.next();
+    Rect {
+        leadrow: bits as i8,
+        leadcol: (bits >> 8) as i8,
+        trailrow: (bits >> 16) as i8,
+        trailcol: (bits >> 24) as i8,
+        weight: (bits >> 32) as i16,
+    }
+}
+
+/// Moves a rectangle up until its lead row is at most `most`.
+fn lower(rect: &mut Rect, most: i8) {
+    if rect.leadrow > most {
+        let size = rect.leadrow - rect.trailrow;
+        rect.leadrow = most;
+        rect.trailrow = (most - size).max(-16);
+    }
+}
+
+/// The fewest bits, 8 at least, of a pixel word for the table.
+pub fn least_word(table: &Table) -> u8 {
+    let (low, high) = extremes(table);
+    let enough = (8..64).find(|&w| fits(low, w) && fits(high, w));
+    enough.expect("the extremes fit 64 bits")
+}
+
+/// Sets t and w so that question 10 passes, t as small as the word lets it or a little larger.
+fn settle_word(rng: &mut Rng, table: &mut Table) {
+    while least_word(table) > 32 {
+        table.t += 1;
+    }
+    let least = least_word(table);
+    table.w = match rng.below(4) {
+        0 | 1 => least,
+        2 => 32,
+        _ => rng.range(i64::from(least), 32) as u8,
+    };
+}
+
+fn set_drops(rng: &mut Rng, table: &mut Table) {
+    let any_low = |rng: &mut Rng, most: i64| rng.range(0, most).min(rng.range(0, most)) as u8;
+    match rng.below(4) {
+        0 | 1 => {}
+        2 => {
+            table.q1 = any_low(rng, i64::from(table.b) - 1);
+            table.q2 = any_low(rng, 3);
+            table.q3 = any_low(rng, 3);
+        }
+        _ => {
+            table.q1 = rng.range(0, i64::from(table.b) - 1) as u8;
+            table.q2 = rng.range(0, 8) as u8;
+            table.q3 = rng.range(0, 8) as u8;
+        }
+    }
+}
+
+/// A table that loading accepts, with `count` rectangles.
+pub fn table_of(rng: &mut Rng, count: usize) -> Table {
+    let mut table = Table {
+        b: rng.range(1, 12) as u8,
+        t: rng.pick(&[0, 0, 0, 1, 2, 4, 9, 31]),
+        count,
+        ..Table::default()
+    };
+    set_drops(rng, &mut table);
+    let most = if rng.one_in(3) {
+        15
+    } else {
+        rng.range(-2, 15) as i8
+    };
+    let gentle = rng.one_in(2);
+    for slot in &mut table.rects[..count] {
+        *slot = rect(rng);
+        lower(slot, most);
+        if gentle {
+            slot.weight %= 100;
+        }
+    }
+    settle_word(rng, &mut table);
+    table
+}
+
+/// A table that loading accepts, with zeros in the slots that it does not use.
+pub fn clean_table(rng: &mut Rng) -> Table {
+    let count = rng.pick(&[1, 1, 1, 2, 2, 3, 4, 5, 8, 15, 16]);
+    table_of(rng, count)
+}
+
+/// The same with anything in the slots that it does not use.
+pub fn table(rng: &mut Rng) -> Table {
+    let mut table = clean_table(rng);
+    if !rng.one_in(4) {
+        for slot in &mut table.rects[table.count..] {
+            *slot = any_rect(rng);
+        }
+    }
+    table
+}
+
+/// A table by value that loading would not accept.
+pub fn bad_table(rng: &mut Rng) -> Table {
+    let mut bad = table(rng);
+    let k = rng.below(bad.count);
+    match rng.below(12) {
+        0 => bad.b = rng.pick(&[0, 13, 16, 255]),
+        1 => bad.q1 = rng.pick(&[bad.b, bad.b + 1, 255]),
+        2 => bad.q2 = rng.pick(&[9, 64, 255]),
+        3 => bad.q3 = rng.pick(&[9, 64, 255]),
+        4 => bad.t = rng.pick(&[32, 64, 255]),
+        5 => bad.w = rng.pick(&[0, 7, 33, 255]),
+        6 | 7 => bad.count = rng.pick(&[0, 17, 18, 256, usize::MAX, 1 << 32]),
+        8 => bad.rects[k].leadrow = rng.pick(&[16, 127, -16, -128, bad.rects[k].trailrow]),
+        9 => bad.rects[k].leadcol = rng.pick(&[16, 127, -16, -128, bad.rects[k].trailcol]),
+        10 => bad.rects[k].trailrow = rng.pick(&[-17, -128, 15, 127, bad.rects[k].leadrow]),
+        _ => bad.rects[k].trailcol = rng.pick(&[-17, -128, 15, 127, bad.rects[k].leadcol]),
+    }
+    if rng.one_in(8) {
+        bad = narrow_table(rng);
+    }
+    if table::accepted(&bad) {
+        bad.count = 0;
+    }
+    bad
+}
+
+/// A table refused by question 10 alone, where one can be made of a random one.
+fn narrow_table(rng: &mut Rng) -> Table {
+    let mut table = table(rng);
+    table.w = (least_word(&table) - 1).max(8);
+    table
+}
+
+/// A row of samples that the table takes.
+pub fn row(rng: &mut Rng, table: &Table, width: usize) -> Vec<u16> {
+    let largest = i64::from(table::largest_sample(table));
+    let style = rng.below(6);
+    let level = rng.range(0, largest);
+    (0..width)
+        .map(|_| {
+            let sample = match style {
+                0 => largest,
+                1 => level,
+                2 => rng.pick(&[0, largest]),
+                _ => rng.range(0, largest),
+            };
+            sample as u16
+        })
+        .collect()
+}
+
+/// What a pixel costs to work out from its definition, in samples.
+pub fn area(table: &Table) -> usize {
+    let of = |rect: &Rect| (rows(rect) * columns(rect)) as usize;
+    table::rects(table).iter().map(of).sum()
+}

@@ -1,0 +1,228 @@
+//! Tables as the papers have them: the file, the questions 1 to 11, writing, and the figures M, N and D.
+
+use crate::ffi::{Loaded, Rect, Table, Written};
+
+/// A field is a tag, a two-byte length and six bytes of contents.
+pub const FIELD: usize = 9;
+pub const MOST_RECTS: usize = 16;
+
+/// M, the rows that a rectangle covers.
+pub fn rows(rect: &Rect) -> i64 {
+    i64::from(rect.leadrow) - i64::from(rect.trailrow)
+}
+
+/// N, the columns that a rectangle covers.
+pub fn columns(rect: &Rect) -> i64 {
+    i64::from(rect.leadcol) - i64::from(rect.trailcol)
+}
+
+/// The rectangles of a table: its slots below the count.
+pub fn rects(table: &Table) -> &[Rect] {
+    &table.rects[..table.count]
+}
+
+/// D, the largest lead row, or 0 if none is positive.
+pub fn delay(table: &Table) -> u32 {
+    let largest = rects(table).iter().map(|rect| rect.leadrow).max();
+    largest.unwrap_or(0).max(0) as u32
+}
+
+/// The largest sample, 2^b - 1.
+pub fn largest_sample(table: &Table) -> u16 {
+    ((1u32 << table.b) - 1) as u16
+}
+
+/// Questions 3, 4 and 5.
+fn head_question(table: &Table) -> Result<(), u32> {
+    if table.b < 1 || table.b > 12 {
+        return Err(3);
+    }
+    if table.q1 >= table.b || table.q2 > 8 || table.q3 > 8 {
+        return Err(4);
+    }
+    if table.t > 31 || table.w < 8 || table.w > 32 {
+        return Err(5);
+    }
+    Ok(())
+}
+
+/// Question 8.
+fn edges_good(rect: &Rect) -> bool {
+    let good = |lead: i8, trail: i8| {
+        (-15..=15).contains(&lead) && (-16..=14).contains(&trail) && trail < lead
+    };
+    good(rect.leadrow, rect.trailrow) && good(rect.leadcol, rect.trailcol)
+}
+
+/// The two values of question 10: over negative and over positive weights, shifted and rounded down.
+pub fn extremes(table: &Table) -> (i128, i128) {
+    let mut low = 0i128;
+    let mut high = 0i128;
+    for rect in rects(table) {
+        let term = i128::from(rect.weight) * i128::from(rows(rect)) * i128::from(columns(rect));
+        if term > 0 {
+            high += term;
+        } else {
+            low += term;
+        }
+    }
+    let largest = (1i128 << table.b) - 1;
+    let unit = 1i128 << table.t;
+    (
+        (low * largest).div_euclid(unit),
+        (high * largest).div_euclid(unit),
+    )
+}
+
+/// Does a number fit the signed word of w bits?
+pub fn fits(value: i128, w: u8) -> bool {
+    let half = 1i128 << (w - 1);
+    -half <= value && value < half
+}
+
+/// Question 10.
+fn extremes_good(table: &Table) -> bool {
+    let (low, high) = extremes(table);
+    fits(low, table.w) && fits(high, table.w)
+}
+
+/// Question 11: is this a table that loading accepts?
+pub fn accepted(table: &Table) -> bool {
+    (1..=MOST_RECTS).contains(&table.count)
+        && head_question(table).is_ok()
+        && rects(table).iter().all(edges_good)
+        && extremes_good(table)
+}
+
+/// The contents of the field at `at`: `number` unless it is marked `tag` 00 06, 2 unless all six bytes are there.
+fn field(bytes: &[u8], at: usize, tag: u8, number: u32) -> Result<[u8; 6], u32> {
+    let rest = &bytes[at..];
+    if rest.len() < 3 || rest[..3] != [tag, 0, 6] {
+        return Err(number);
+    }
+    match rest.get(3..FIELD) {
+        Some(contents) => Ok(contents.try_into().expect("six bytes")),
+        None => Err(2),
+    }
+}
+
+fn rect_of(f: [u8; 6]) -> Rect {
+    Rect {
+        leadrow: f[0] as i8,
+        leadcol: f[1] as i8,
+        trailrow: f[2] as i8,
+        trailcol: f[3] as i8,
+        weight: i16::from_be_bytes([f[4], f[5]]),
+    }
+}
+
+/// The table that a file says, or the number of the first no among questions 1 to 10.
+pub fn load(bytes: &[u8]) -> Result<Table, u32> {
+    let [b, q1, q2, q3, t, w] = field(bytes, 0, 1, 1)?;
+    let mut table = Table {
+        b,
+        q1,
+        q2,
+        q3,
+        t,
+        w,
+        ..Table::default()
+    };
+    head_question(&table)?;
+    let mut at = FIELD;
+    while at < bytes.len() {
+        if table.count == MOST_RECTS {
+            return Err(6);
+        }
+        let rect = rect_of(field(bytes, at, 2, 7)?);
+        if !edges_good(&rect) {
+            return Err(8);
+        }
+        table.rects[table.count] = rect;
+        table.count += 1;
+        at += FIELD;
+    }
+    if table.count == 0 {
+        return Err(9);
+    }
+    if !extremes_good(&table) {
+        return Err(10);
+    }
+    Ok(table)
+}
+
+/// What the loading call answers. A refused file hands out a table of zeros: the papers leave it free, the header says it.
+pub fn loaded(bytes: &[u8]) -> Loaded {
+    match load(bytes) {
+        Ok(table) => Loaded {
+            refusal: 0,
+            place: 0,
+            table,
+        },
+        Err(refusal) => Loaded {
+            refusal,
+            place: 0,
+            table: Table::default(),
+        },
+    }
+}
+
+/// The bytes of a field.
+pub fn mark(tag: u8, contents: [u8; 6]) -> [u8; FIELD] {
+    let mut bytes = [tag, 0, 6, 0, 0, 0, 0, 0, 0];
+    bytes[3..].copy_from_slice(&contents);
+    bytes
+}
+
+pub fn rect_contents(rect: &Rect) -> [u8; 6] {
+    let [high, low] = rect.weight.to_be_bytes();
+    let edge = |e: i8| e as u8;
+    [
+        edge(rect.leadrow),
+        edge(rect.leadcol),
+        edge(rect.trailrow),
+        edge(rect.trailcol),
+        high,
+        low,
+    ]
+}
+
+/// The file of a header and any list of rectangles, within the limits or not.
+pub fn file(head: [u8; 6], rects: &[Rect]) -> Vec<u8> {
+    let mut bytes = mark(1, head).to_vec();
+    for rect in rects {
+        bytes.extend(mark(2, rect_contents(rect)));
+    }
+    bytes
+}
+
+pub fn head_of(table: &Table) -> [u8; 6] {
+    [table.b, table.q1, table.q2, table.q3, table.t, table.w]
+}
+
+/// The file of a table whose count is at most sixteen.
+pub fn file_of(table: &Table) -> Vec<u8> {
+    file(head_of(table), rects(table))
+}
+
+/// The writing call: 11, then 13; then the file at the start of the output. The length beside a refusal is 0, by the header.
+pub fn write(table: &Table, out: &mut [u8]) -> Written {
+    let refused = |refusal| Written {
+        refusal,
+        place: 0,
+        length: 0,
+    };
+    if !accepted(table) {
+        return refused(11);
+    }
+    let bytes = file_of(table);
+    if out.len() < bytes.len() {
+        return refused(13);
+    }
+    out[..bytes.len()].copy_from_slice(&bytes);
+    Written {
+        refusal: 0,
+        place: 0,
+        length: bytes.len(),
+    }
+}

@@ -1,0 +1,149 @@
+//! What the cases met: how often each call answered each number, and which situations came up.
+
+use std::collections::BTreeMap;
+use std::fmt::Debug;
+
+/// A case ends well, or with what was wrong.
+pub type Outcome = Result<(), String>;
+
+/// The numbers that each call can answer, 0 being acceptance; every one has to be met.
+const NUMBERS: [(&str, &[u32]); 8] = [
+    ("check", &[0, 1, 2, 3, 4, 5, 6, 7, 8, 9, 10]),
+    ("load", &[0, 1, 2, 3, 4, 5, 6, 7, 8, 9, 10]),
+    ("write", &[0, 11, 13]),
+    ("start", &[0, 11, 12, 13]),
+    ("row", &[0, 14, 15, 16, 17, 13, 18, 19]),
+    ("close", &[0, 14, 15]),
+    ("step", &[0, 14, 15, 13, 19]),
+    ("pixel", &[0, 11, 12, 17, 20, 18]),
+];
+
+/// Situations that have to come up.
+const SIGHTS: [&str; 33] = [
+    "10 just passed",
+    "10 just missed",
+    "sixteen rectangles loaded",
+    "several faults in one file",
+    "file written back",
+    "output longer than the file",
+    "table of one count too many",
+    "row out",
+    "waiting",
+    "step: row out",
+    "step: waiting",
+    "step: done",
+    "done with short stores",
+    "13 while waiting",
+    "drops",
+    "negative lead",
+    "both signs of weight",
+    "width 1",
+    "width 1024",
+    "no rows",
+    "fewer rows than D",
+    "ring gone round",
+    "refused in the middle",
+    "whole scan by the pixel call",
+    "altered, 19",
+    "altered, no 19",
+    "19 at a later rectangle",
+    "19 just passed",
+    "19 just missed",
+    "sum near 2^32",
+    "old state again",
+    "arrival past 65535",
+    "65535 rows given",
+];
+
+#[derive(Default)]
+pub struct Tally {
+    numbers: BTreeMap<(&'static str, u32), u64>,
+    sights: BTreeMap<&'static str, u64>,
+    delays: BTreeMap<u32, u64>,
+}
+
+impl Tally {
+    pub fn answered(&mut self, call: &'static str, number: u32) {
+        *self.numbers.entry((call, number)).or_default() += 1;
+    }
+
+    pub fn saw(&mut self, what: &'static str) {
+        *self.sights.entry(what).or_default() += 1;
+    }
+
+    pub fn saw_if(&mut self, what: &'static str, happened: bool) {
+        if happened {
+            self.saw(what);
+        }
+    }
+
+    /// A scan with delay D was run to its end.
+    pub fn ran(&mut self, d: u32) {
+        *self.delays.entry(d).or_default() += 1;
+    }
+
+    /// How often a refusal was met over all calls.
+    fn met(&self, number: u32) -> u64 {
+        let of_number = self.numbers.iter().filter(|((_, n), _)| *n == number);
+        of_number.map(|(_, times)| times).sum()
+    }
+
+    pub fn print(&self) {
+        for (call, numbers) in NUMBERS {
+            let times = |n: &u32| self.numbers.get(&(call, *n)).copied().unwrap_or(0);
+            let list: Vec<String> = numbers
+                .iter()
+                .map(|n| format!("{n}: {}", times(n)))
+                .collect();
+            println!("{call:<6} answered {}", list.join(", "));
+        }
+        let list: Vec<String> = (1..=20).map(|n| format!("{n}: {}", self.met(n))).collect();
+        println!("refusals {}", list.join(", "));
+        for (what, times) in &self.sights {
+            println!("{what:<29} {times}");
+        }
+        let list: Vec<String> = self
+            .delays
+            .iter()
+            .map(|(d, n)| format!("{d}: {n}"))
+            .collect();
+        println!("whole scans by delay {}", list.join(", "));
+    }
+
+    /// What should have been met and was not.
+    pub fn missing(&self) -> Vec<String> {
+        let mut list = Vec::new();
+        for (call, numbers) in NUMBERS {
+            let absent = numbers
+                .iter()
+                .filter(|n| !self.numbers.contains_key(&(call, **n)));
+            list.extend(absent.map(|n| format!("{call} never answered {n}")));
+        }
+        let absent = (1..=20).filter(|n| self.met(*n) == 0);
+        list.extend(absent.map(|n| format!("refusal {n} never met")));
+        let absent = SIGHTS.iter().filter(|s| !self.sights.contains_key(*s));
+        list.extend(absent.map(|s| format!("never came up: {s}")));
+        let absent = (0..=15).filter(|d| !self.delays.contains_key(d));
+        list.extend(absent.map(|d| format!("no whole scan with delay {d}")));
+        list
+    }
+}
+
+/// The library's answer has to be the papers'.
+pub fn same<T: PartialEq + Debug + ?Sized>(what: &str, library: &T, papers: &T) -> Outcome {
+    if library == papers {
+        return Ok(());
+    }
+    Err(format!(
+        "{what}\n  library: {library:?}\n  papers:  {papers:?}"
+    ))
+}
+
+/// A fact that the case itself relies on.
+pub fn holds(what: &str, fact: bool) -> Outcome {
+    if fact {
+        Ok(())
+    } else {
+        Err(format!("{what} does not hold"))
+    }
+}

@@ -1,0 +1,243 @@
+//! Two equal sets of stores: the library works on one, the papers' engine on the other, and they stay equal.
+
+use std::fmt::Debug;
+
+use crate::engine::{self, KEPT};
+use crate::ffi::{self, Answer, Scan, Started, Table, DONE, REFUSED, ROW, WAITING};
+use crate::rng::Rng;
+use crate::tally::{same, Outcome, Tally};
+
+/// Places on both sides of a lent part that nobody may touch.
+const MARGIN: usize = 4;
+
+/// A store of which `given` places are lent.
+#[derive(Clone, PartialEq)]
+struct Lent<T> {
+    all: Vec<T>,
+    given: usize,
+}
+
+impl<T: Copy + PartialEq + Debug> Lent<T> {
+    /// Room for `room` places, all of them lent, with anything in them.
+    fn new(room: usize, mut dirt: impl FnMut() -> T) -> Lent<T> {
+        Lent {
+            all: (0..room + 2 * MARGIN).map(|_| dirt()).collect(),
+            given: room,
+        }
+    }
+
+    fn room(&self) -> usize {
+        self.all.len() - 2 * MARGIN
+    }
+
+    fn part(&mut self) -> &mut [T] {
+        &mut self.all[MARGIN..MARGIN + self.given]
+    }
+
+    fn place(&mut self, index: usize) -> &mut T {
+        &mut self.all[MARGIN + index]
+    }
+
+    fn compare(&self, what: &str, papers: &Lent<T>) -> Outcome {
+        if self.all == papers.all {
+            return Ok(());
+        }
+        let index = (0..self.all.len()).find(|&i| self.all[i] != papers.all[i]);
+        let i = index.expect("stores of one length");
+        Err(format!(
+            "{what}, place {} of {}: library {:?}, papers {:?}",
+            i as i64 - MARGIN as i64,
+            self.given,
+            self.all[i],
+            papers.all[i]
+        ))
+    }
+}
+
+#[derive(Clone, PartialEq)]
+pub struct World {
+    samples: Lent<u16>,
+    sums: Lent<u32>,
+    out: Lent<i32>,
+}
+
+impl World {
+    fn compare(&self, papers: &World) -> Outcome {
+        self.samples.compare("sample store", &papers.samples)?;
+        self.sums.compare("sum store", &papers.sums)?;
+        self.out.compare("output", &papers.out)
+    }
+}
+
+/// The lengths that are lent: sample store, sum store, output.
+#[derive(Clone, Copy, Debug)]
+pub struct Lengths {
+    pub samples: usize,
+    pub sums: usize,
+    pub out: usize,
+}
+
+impl Lengths {
+    /// What a scan of `count` rectangles needs.
+    pub fn needed(count: usize, width: usize) -> Lengths {
+        Lengths {
+            samples: KEPT * width,
+            sums: count * width,
+            out: width,
+        }
+    }
+}
+
+pub struct Bench<'a> {
+    pub tally: &'a mut Tally,
+    library: World,
+    papers: World,
+}
+
+impl<'a> Bench<'a> {
+    /// Stores with room for `count` rectangles at `width`, often a little more, and dirt in them.
+    pub fn new(rng: &mut Rng, tally: &'a mut Tally, count: usize, width: usize) -> Bench<'a> {
+        let needed = Lengths::needed(count, width);
+        let mut extra = || rng.pick(&[0, 0, 1, 5]);
+        let (i, j, k) = (extra(), extra(), extra());
+        let world = World {
+            samples: Lent::new(needed.samples + i, || rng.next() as u16),
+            sums: Lent::new(needed.sums + j, || rng.next() as u32),
+            out: Lent::new(needed.out + k, || rng.next() as i32),
+        };
+        Bench {
+            tally,
+            library: world.clone(),
+            papers: world,
+        }
+    }
+
+    /// Lends so many places from now on, or all there are if they are fewer.
+    pub fn lend(&mut self, lengths: Lengths) {
+        for world in [&mut self.library, &mut self.papers] {
+            world.samples.given = lengths.samples.min(world.samples.room());
+            world.sums.given = lengths.sums.min(world.sums.room());
+            world.out.given = lengths.out.min(world.out.room());
+        }
+    }
+
+    /// What is lent now.
+    pub fn lent(&self) -> Lengths {
+        Lengths {
+            samples: self.papers.samples.given,
+            sums: self.papers.sums.given,
+            out: self.papers.out.given,
+        }
+    }
+
+    pub fn set_sample(&mut self, index: usize, sample: u16) {
+        *self.library.samples.place(index) = sample;
+        *self.papers.samples.place(index) = sample;
+    }
+
+    pub fn set_sum(&mut self, index: usize, sum: u32) {
+        *self.library.sums.place(index) = sum;
+        *self.papers.sums.place(index) = sum;
+    }
+
+    /// The sample store as it is lent.
+    pub fn samples(&mut self) -> &[u16] {
+        self.papers.samples.part()
+    }
+
+    /// The output as the library left it.
+    pub fn output(&mut self) -> &[i32] {
+        self.library.out.part()
+    }
+
+    /// A copy of the stores, to be put back later.
+    pub fn keep(&self) -> World {
+        self.papers.clone()
+    }
+
+    pub fn put_back(&mut self, world: &World) {
+        self.library = world.clone();
+        self.papers = world.clone();
+    }
+
+    /// Nothing has been written since the two were last equal.
+    fn untouched(&self, call: &str) -> Outcome {
+        let compared = self.library.compare(&self.papers);
+        compared.map_err(|wrong| format!("{call} without effect changed a store: {wrong}"))
+    }
+
+    fn equal_after(&self, call: &str) -> Outcome {
+        let compared = self.library.compare(&self.papers);
+        compared.map_err(|wrong| format!("after {call}: {wrong}"))
+    }
+
+    pub fn start(&mut self, table: &Table, width: usize) -> Result<Started, String> {
+        let world = &mut self.library;
+        let (samples, sums) = (world.samples.part(), world.sums.part());
+        let library = ffi::scan_start(table, width, samples, sums);
+        if library.refusal != 0 {
+            self.untouched("start")?;
+        }
+        let world = &mut self.papers;
+        let (samples, sums) = (world.samples.part(), world.sums.part());
+        let papers = engine::start(table, width, samples, sums);
+        same("start", &library, &papers)?;
+        self.equal_after("start")?;
+        self.tally.answered("start", papers.refusal);
+        Ok(papers)
+    }
+
+    pub fn close(&mut self, scan: &Scan) -> Result<Started, String> {
+        let library = ffi::scan_close(scan);
+        let papers = engine::close(scan);
+        same("close", &library, &papers)?;
+        self.tally.answered("close", papers.refusal);
+        Ok(papers)
+    }
+
+    pub fn row(&mut self, scan: &Scan, row: &[u16]) -> Result<Answer, String> {
+        let w = &mut self.library;
+        let library = ffi::scan_row(scan, row, w.samples.part(), w.sums.part(), w.out.part());
+        self.idle("row", scan, &library)?;
+        let w = &mut self.papers;
+        let papers = engine::row(scan, row, w.samples.part(), w.sums.part(), w.out.part());
+        self.agree("row", &library, &papers)?;
+        self.tally.saw_if("row out", papers.kind == ROW);
+        self.tally.saw_if("waiting", papers.kind == WAITING);
+        Ok(papers)
+    }
+
+    pub fn step(&mut self, scan: &Scan) -> Result<Answer, String> {
+        let w = &mut self.library;
+        let library = ffi::scan_step(scan, w.samples.part(), w.sums.part(), w.out.part());
+        self.idle("step", scan, &library)?;
+        let w = &mut self.papers;
+        let papers = engine::step(scan, w.samples.part(), w.sums.part(), w.out.part());
+        self.agree("step", &library, &papers)?;
+        self.tally.saw_if("step: row out", papers.kind == ROW);
+        self.tally.saw_if("step: waiting", papers.kind == WAITING);
+        self.tally.saw_if("step: done", papers.kind == DONE);
+        Ok(papers)
+    }
+
+    /// A refusal, and done, leave the state and every store as they were.
+    fn idle(&self, call: &str, scan: &Scan, library: &Answer) -> Outcome {
+        if library.kind == REFUSED || library.kind == DONE {
+            self.untouched(call)?;
+            same("state after a call without effect", &library.scan, scan)?;
+        }
+        Ok(())
+    }
+
+    fn agree(&mut self, call: &'static str, library: &Answer, papers: &Answer) -> Outcome {
+        same(call, library, papers)?;
+        self.equal_after(call)?;
+        let number = if papers.kind == REFUSED {
+            papers.number
+        } else {
+            0
+        };
+        self.tally.answered(call, number);
+        Ok(())
+    }
+}
