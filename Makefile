@@ -1,11 +1,12 @@
 # make test      the gate: the examples, the outside tests, then every crate proved from nothing, every must-fail edit refused, every program run
-# make run       the table listing, on Table A
+# make run       filters the strip under scans/ and lists Table A; proves the programs first, which takes some minutes once
 # make lib       build/libstrip.a and build/strip.h, for C
 # make examples  the header compiled as C and C++, the C example run
 # make outside   the library, through its C interface, beside a filter written separately from the papers
-# make bench     the engine's speed beside C loops
+# make bench     the engine's speed beside C loops, and the program's beside the engine
+# make scan      makes the strip under scans/ again
 
-.PHONY: test run lib examples outside bench kit
+.PHONY: test run lib examples outside bench scan kit
 
 kit:
 	@command -v rt >/dev/null 2>&1 || { echo "missing: rt, the command of the Rattle kit, is not on the PATH"; exit 2; }
@@ -15,8 +16,18 @@ test: kit examples outside
 	@rt ci
 
 run: kit
-	@rt check listing >target.log 2>&1 || { cat target.log; rm -f target.log; exit 1; }
+	@rt check listing stripfilter >target.log 2>&1 || { cat target.log; rm -f target.log; exit 1; }
 	@rm -f target.log
+	@mkdir -p build
+	@target/bin/stripfilter tables/even.table <scans/strip.pgm >build/strip-filtered.pgm
+	@echo "the strip as it was scanned:    scans/strip.pgm"
+	@echo "filtered by tables/even.table:  build/strip-filtered.pgm"
+	@if command -v python3 >/dev/null 2>&1; then \
+	    python3 scripts/png.py scans/strip.pgm build/strip.png; \
+	    python3 scripts/png.py build/strip-filtered.pgm build/strip-filtered.png; \
+	    echo "the same as PNG:                build/strip.png, build/strip-filtered.png"; \
+	fi
+	@echo "tables/a.table:"
 	@target/bin/listing <tables/a.table
 
 lib: build/libstrip.a build/strip.h
@@ -38,3 +49,11 @@ outside: lib
 
 bench: lib
 	@bench/run.sh
+	@rt check stripfilter >target.log 2>&1 || { cat target.log; rm -f target.log; exit 1; }
+	@rm -f target.log
+	@gcc -O2 -Wall -Wextra -Ibuild bench/program.c build/libstrip.a -o build/bench-program
+	@build/bench-program target/bin/stripfilter tables/a.table build
+	@build/bench-program target/bin/stripfilter tables/even.table build
+
+scan:
+	@python3 scans/make.py

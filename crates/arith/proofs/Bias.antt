@@ -1,7 +1,7 @@
--- Signed numbers of a narrow width and their words: one law for every width up to 16 bits.
+-- Signed numbers of a narrow width and their words: one law for every width and every wider one.
 -- Assumes nothing.
 use Prim.Native.Nat.{ℕ, suc, _+_, _-_, _%_, _^_, _≤_, _<_}
-use native.Mathlib.Nat.{lt-of-lt-of-le, le-trans, add-mod-right, mod-eq-of-lt}
+use native.Mathlib.Nat.{add-mod-right, mod-eq-of-lt, pow-succ'}
 use native.Mathlib.Omega.{arith}
 use mathlib.Core.Path.{_≡_, refl, sym, _∙_, subst}
 use lib.Dec.{T, leb, leb→le, lit≤, lit<}
@@ -33,52 +33,6 @@ raised (negsuc a) h l =
       small = omega arith;
     }
 
--- the code's steps: z widened to 32 bits, raised by half of the range, and read as an unsigned number
-module _ (w : Width) (z : ℤ) (f : SFits w z) (t : T (leb (hbits w) 15)) where
-  pub widened : SFits w32 (toZ w (ofZ w z))
-  widened = rw (toZ-ofZ f) (record { sfits = lt-of-lt-of-le (f .sfits) (le-trans (pow-mono (leb→le (hbits w) 15 t)) (lit≤ {m = 2 ^ 15} tt)) })
-
-  back : toZ w32 (ofZ w32 (toZ w (ofZ w z))) ≡ z
-  back = toZ-ofZ widened ∙ toZ-ofZ f
-
-  up : Raised z (2 ^ hbits w)
-  up = raised z (2 ^ hbits w) (f .sfits)
-
-  in-word : up .sum < 2 ^ 31
-  in-word = let p = up .small in let q = pow-mono (leb→le (hbits w) 15 t) in omega arith
-
-  is-sum : toZ w32 (ofZ w32 (toZ w (ofZ w z))) +ℤ pos (2 ^ hbits w) ≡ pos (up .sum)
-  is-sum = rw back (up .is)
-
-  pub sum-fits : SFits w32 (toZ w32 (ofZ w32 (toZ w (ofZ w z))) +ℤ pos (2 ^ hbits w))
-  sum-fits = rw is-sum (record { sfits = in-word })
-
-  result : toZ w32 (ofZ w32 (toZ w32 (ofZ w32 (toZ w (ofZ w z))) +ℤ pos (2 ^ hbits w))) ≡ pos (up .sum)
-  result = toZ-ofZ sum-fits ∙ is-sum
-
-  pub cast-fits :
-      T (nonNeg (toZ w32 (ofZ w32 (toZ w32 (ofZ w32 (toZ w (ofZ w z))) +ℤ pos (2 ^ hbits w)))))
-      × Fits w32 (natAbs (toZ w32 (ofZ w32 (toZ w32 (ofZ w32 (toZ w (ofZ w z))) +ℤ pos (2 ^ hbits w)))))
-  cast-fits = rw result (tt, record { fits = let p = in-word in omega arith })
-
-  pub value :
-      Diff z (natAbs (toZ w32 (ofZ w32 (toZ w32 (ofZ w32 (toZ w (ofZ w z))) +ℤ pos (2 ^ hbits w))))) (2 ^ hbits w)
-      × (natAbs (toZ w32 (ofZ w32 (toZ w32 (ofZ w32 (toZ w (ofZ w z))) +ℤ pos (2 ^ hbits w)))) < 2 ^ hbits w + 2 ^ hbits w)
-  value = rw result (up .less, up .small)
-
--- the word of z, from z raised by half of the range
-pub wrapped : (n : ℕ) {z : ℤ} {r : ℕ} → 0 < n → Diff z r (2 ^ (n - 1)) → r < 2 ^ n → (r + 2 ^ (n - 1)) % 2 ^ n ≡ unsigned n z
-unfolding unsigned
-wrapped n {z = pos a} {r} p d l =
-    let e = d .is in
-    let h = pow-half n p in
-    let k : r + 2 ^ (n - 1) ≡ a + 2 ^ n = omega arith in
-    rw k (add-mod-right a (2 ^ n) ∙ mod-eq-of-lt (omega arith))
-wrapped n {z = negsuc a} {r} p d l =
-    let e = d .is in
-    let h = pow-half n p in
-    mod-eq-of-lt (omega arith) ∙ omega arith
-
 half-bits : (w : Width) → hbits w ≡ bits w - 1
 half-bits w8 = refl
 half-bits w16 = refl
@@ -95,6 +49,55 @@ some-bits w128 = lit< tt
 
 twice : (w : Width) → 2 ^ bits w ≡ 2 ^ hbits w + 2 ^ hbits w
 twice w = rw (half-bits w) (pow-half (bits w) (some-bits w))
+
+-- the code's steps: z widened to v bits, raised by half of the range of w, and read as an unsigned number
+module _ (w v : Width) (z : ℤ) (f : SFits w z) (t : T (leb (suc (hbits w)) (hbits v))) where
+  wider : 2 ^ hbits w + 2 ^ hbits w ≤ 2 ^ hbits v
+  wider = let p = pow-succ' 2 (hbits w) in let q = pow-mono (leb→le (suc (hbits w)) (hbits v) t) in omega arith
+
+  pub widened : SFits v (toZ w (ofZ w z))
+  widened = rw (toZ-ofZ f) (record { sfits = let p = f .sfits in let q = wider in omega arith })
+
+  back : toZ v (ofZ v (toZ w (ofZ w z))) ≡ z
+  back = toZ-ofZ widened ∙ toZ-ofZ f
+
+  up : Raised z (2 ^ hbits w)
+  up = raised z (2 ^ hbits w) (f .sfits)
+
+  in-word : up .sum < 2 ^ hbits v
+  in-word = let p = up .small in let q = wider in omega arith
+
+  is-sum : toZ v (ofZ v (toZ w (ofZ w z))) +ℤ pos (2 ^ hbits w) ≡ pos (up .sum)
+  is-sum = rw back (up .is)
+
+  pub sum-fits : SFits v (toZ v (ofZ v (toZ w (ofZ w z))) +ℤ pos (2 ^ hbits w))
+  sum-fits = rw is-sum (record { sfits = in-word })
+
+  result : toZ v (ofZ v (toZ v (ofZ v (toZ w (ofZ w z))) +ℤ pos (2 ^ hbits w))) ≡ pos (up .sum)
+  result = toZ-ofZ sum-fits ∙ is-sum
+
+  pub cast-fits :
+      T (nonNeg (toZ v (ofZ v (toZ v (ofZ v (toZ w (ofZ w z))) +ℤ pos (2 ^ hbits w)))))
+      × Fits v (natAbs (toZ v (ofZ v (toZ v (ofZ v (toZ w (ofZ w z))) +ℤ pos (2 ^ hbits w)))))
+  cast-fits = rw result (tt, record { fits = let p = in-word in let q = twice v in omega arith })
+
+  pub value :
+      Diff z (natAbs (toZ v (ofZ v (toZ v (ofZ v (toZ w (ofZ w z))) +ℤ pos (2 ^ hbits w))))) (2 ^ hbits w)
+      × (natAbs (toZ v (ofZ v (toZ v (ofZ v (toZ w (ofZ w z))) +ℤ pos (2 ^ hbits w)))) < 2 ^ hbits w + 2 ^ hbits w)
+  value = rw result (up .less, up .small)
+
+-- the word of z, from z raised by half of the range
+pub wrapped : (n : ℕ) {z : ℤ} {r : ℕ} → 0 < n → Diff z r (2 ^ (n - 1)) → r < 2 ^ n → (r + 2 ^ (n - 1)) % 2 ^ n ≡ unsigned n z
+unfolding unsigned
+wrapped n {z = pos a} {r} p d l =
+    let e = d .is in
+    let h = pow-half n p in
+    let k : r + 2 ^ (n - 1) ≡ a + 2 ^ n = omega arith in
+    rw k (add-mod-right a (2 ^ n) ∙ mod-eq-of-lt (omega arith))
+wrapped n {z = negsuc a} {r} p d l =
+    let e = d .is in
+    let h = pow-half n p in
+    mod-eq-of-lt (omega arith) ∙ omega arith
 
 -- a word below half of the range is its own signed number
 pub signed-as-is : (w : Width) (x : ℕ) → x < 2 ^ hbits w → toZ w x ≡ signed (bits w) x

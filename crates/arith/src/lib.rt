@@ -13,6 +13,7 @@ pub use natural::monus;
 pub use raised::power;
 pub use sign::SignParts;
 pub use sign::biased_byte;
+pub use sign::biased_long;
 pub use sign::biased_word;
 pub use sign::byte_of;
 pub use sign::sign_parts;

@@ -22,6 +22,14 @@ pub fn biased_word(z: i16) -> u32
     ((z as i32) + 32768) as u32
 }
 
+// z + 2^31
+pub fn biased_long(z: i32) -> u64
+    ensures { λ r. ⌜ Diff z r 2147483648 ⌝ }
+    ensures { λ r. ⌜ r < 4294967296 ⌝ }
+{
+    ((z as i64) + 2147483648) as u64
+}
+
 // A signed number as above - below, of which one is 0.
 pub struct SignParts {
     pub above: u32,

@@ -6,7 +6,11 @@ use Rattle.layout.specs.declared.Table.{Table}
 use Rattle.layout.specs.Contents.{rect, tableOf}
 use Rattle.layout.specs.Measure.{rowsOf, colsOf, columnWord, windowWord, lossFigure, delayOf}
 use Rattle.table.specs.Format.{Outcome, refused, loaded}
-use Rattle.listing.specs.Text.{cell, three, signedCell}
+use Rattle.text.specs.Text.{cell, signedCell}
+
+-- three numbers with single spaces between, and the byte after them
+unfoldable pub three : (x y z end : ℕ) → List ℕ
+three x y z end = cell x 32 ++ cell y 32 ++ cell z end
 
 -- b q1 q2 q3 t w
 unfoldable pub headLine : Table → List ℕ

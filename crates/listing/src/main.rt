@@ -1,7 +1,7 @@
 // The table listing: reads a table file from standard input and prints what it holds, or the number of the
 // refusal. At most 154 bytes are read, one more than the longest table has.
+mod cells;
 mod lines;
-mod text;
 
 use libc::STDIN_FILENO;
 use libc::STDOUT_FILENO;

@@ -1,13 +1,13 @@
 use Rattle.listing.specs.Listing.{endLine}
-use Rattle.listing.proofs.Puts.{put-then}
+use Rattle.text.proofs.Puts.{put-then}
 use borrow.Author.Needs.{needs}
 use Rattle.listing.proofs.lines.put_end.Statement.{statement}
 use Rattle.listing.proofs.lines.put_end.Tie as tie
 use Rattle.listing.proofs.lines.put_end.Reads as reads
 use Rattle.listing.proofs.lines.put_end.Lts as lts
 use Rattle.layout.proofs.delay.Reads as delay-reads
-use Rattle.listing.proofs.text.put_bytes.Reads as put-bytes-reads
-use Rattle.listing.proofs.text.put_cell.Reads as put-cell-reads
+use Rattle.listing.proofs.cells.put_bytes.Reads as put-bytes-reads
+use Rattle.listing.proofs.cells.put_cell.Reads as put-cell-reads
 
 -- src/lines.rt:79:32
 slice-aggregate-put-bytes : tie.Need-slice-aggregate-put-bytes

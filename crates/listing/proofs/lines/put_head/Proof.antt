@@ -1,12 +1,12 @@
 use Rattle.listing.specs.Listing.{headLine}
-use Rattle.listing.proofs.Puts.{put-then}
+use Rattle.text.proofs.Puts.{put-then}
 use native.Mathlib.Omega.{arith}
 use borrow.Author.Needs.{needs}
 use Rattle.listing.proofs.lines.put_head.Statement.{statement}
 use Rattle.listing.proofs.lines.put_head.Tie as tie
 use Rattle.listing.proofs.lines.put_head.Reads as reads
 use Rattle.listing.proofs.lines.put_head.Lts as lts
-use Rattle.listing.proofs.text.put_three.Reads as put-three-reads
+use Rattle.listing.proofs.cells.put_three.Reads as put-three-reads
 
 -- src/lines.rt:26:31
 cast-put-three : tie.Need-cast-put-three

@@ -3,7 +3,7 @@ use Rattle.layout.specs.Contents.{rect}
 use mir.Val.{SFits}
 use mir.Syntax.{w16}
 use mir.Facts.{toZ-ofZ}
-use Rattle.listing.proofs.Puts.{put-then}
+use Rattle.text.proofs.Puts.{put-then}
 use native.Mathlib.Omega.{arith}
 use borrow.Author.Needs.{needs}
 use Rattle.listing.proofs.lines.put_rect.Statement.{statement}
@@ -15,8 +15,8 @@ use Rattle.layout.proofs.columns.Reads as columns-reads
 use Rattle.layout.proofs.rows.Reads as rows-reads
 use Rattle.layout.proofs.window_word.Reads as window-word-reads
 use Rattle.listing.proofs.lines.loss_of.Reads as loss-of-reads
-use Rattle.listing.proofs.text.put_signed.Reads as put-signed-reads
-use Rattle.listing.proofs.text.put_three.Reads as put-three-reads
+use Rattle.listing.proofs.cells.put_signed.Reads as put-signed-reads
+use Rattle.listing.proofs.cells.put_three.Reads as put-three-reads
 
 -- src/lines.rt:48:13
 mul-r : tie.Need-mul-r

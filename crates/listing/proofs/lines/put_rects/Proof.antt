@@ -1,7 +1,7 @@
 use denote.Ref.{now}
-use Rattle.listing.proofs.Puts.{kept, put-none, put-then}
+use Rattle.text.proofs.Puts.{kept, put-none, put-then}
 use Rattle.listing.specs.Listing.{rectLine, rectLines}
-use Rattle.listing.specs.Text.{Put}
+use Rattle.text.specs.Text.{Put}
 use native.Mathlib.Numerals.{add-one}
 use native.Mathlib.Omega.{arith}
 use lib.ListN.{length}

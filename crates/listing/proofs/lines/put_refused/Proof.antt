@@ -1,12 +1,12 @@
 use Rattle.listing.specs.Listing.{refusedLine}
-use Rattle.listing.proofs.Puts.{put-then}
+use Rattle.text.proofs.Puts.{put-then}
 use borrow.Author.Needs.{needs}
 use Rattle.listing.proofs.lines.put_refused.Statement.{statement}
 use Rattle.listing.proofs.lines.put_refused.Tie as tie
 use Rattle.listing.proofs.lines.put_refused.Reads as reads
 use Rattle.listing.proofs.lines.put_refused.Lts as lts
-use Rattle.listing.proofs.text.put_bytes.Reads as put-bytes-reads
-use Rattle.listing.proofs.text.put_cell.Reads as put-cell-reads
+use Rattle.listing.proofs.cells.put_bytes.Reads as put-bytes-reads
+use Rattle.listing.proofs.cells.put_cell.Reads as put-cell-reads
 
 -- src/lines.rt:88:31
 slice-aggregate-put-bytes : tie.Need-slice-aggregate-put-bytes

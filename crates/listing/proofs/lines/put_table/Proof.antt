@@ -1,4 +1,4 @@
-use Rattle.listing.proofs.Puts.{put-then}
+use Rattle.text.proofs.Puts.{put-then}
 use Rattle.listing.specs.Listing.{tableLines}
 use borrow.Author.Needs.{needs}
 use Rattle.listing.proofs.lines.put_table.Statement.{statement}

@@ -1,0 +1,24 @@
+use Rattle.text.proofs.Puts.{put-said}
+use borrow.Author.Needs.{needs}
+use Rattle.listing.proofs.cells.put_bytes.Statement.{statement}
+use Rattle.listing.proofs.cells.put_bytes.Tie as tie
+use Rattle.listing.proofs.cells.put_bytes.Reads as reads
+use Rattle.listing.proofs.cells.put_bytes.Lts as lts
+use Rattle.text.proofs.put_bytes.Reads as put-bytes-reads
+
+-- src/cells.rt:12:5
+put-bytes-requires : tie.Need-put-bytes-requires
+put-bytes-requires c κs = search needs
+
+-- src/cells.rt:8:1
+same-length : tie.Need-same-length
+same-length c = search needs
+
+-- src/cells.rt:8:1
+returns : tie.Need-returns
+returns c =
+    let e = c .before .before .put-bytes .ensures in
+    put-said (e .0) (e .1) (c .before .before .before .before .before .before .pre)
+
+pub put-bytes-spec : {M : Type 1} → statement M
+put-bytes-spec = tie.close (tie.spec put-bytes-requires same-length returns)

@@ -1,0 +1,39 @@
+use Rattle.listing.specs.Listing.{three}
+use Rattle.text.proofs.Puts.{put-then}
+use native.Mathlib.Omega.{arith}
+use borrow.Author.Needs.{needs}
+use Rattle.listing.proofs.cells.put_three.Statement.{statement}
+use Rattle.listing.proofs.cells.put_three.Tie as tie
+use Rattle.listing.proofs.cells.put_three.Reads as reads
+use Rattle.listing.proofs.cells.put_three.Lts as lts
+use Rattle.listing.proofs.cells.put_cell.Reads as put-cell-reads
+
+-- src/cells.rt:56:9
+put-cell-requires : tie.Need-put-cell-requires
+put-cell-requires c κs = search needs
+
+-- src/cells.rt:57:9
+put-cell-requires-2 : tie.Need-put-cell-requires-2
+put-cell-requires-2 c κs = search needs
+
+-- src/cells.rt:58:5
+put-cell-requires-3 : tie.Need-put-cell-requires-3
+put-cell-requires-3 c κs = search needs
+
+-- src/cells.rt:51:1
+same-length : tie.Need-same-length
+same-length c = search needs
+
+-- src/cells.rt:51:1
+returns : tie.Need-returns
+unfolding three
+returns c =
+    let x = c .before .before .before .before .before .before .before .before .before .before .put-cell .ensures in
+    let y = c .before .before .before .before .before .before .put-cell2 .ensures in
+    let z = c .before .before .put-cell3 .ensures in
+    (put-then (put-then (x .0) (y .0)) (z .0), omega arith)
+
+pub put-three-spec : {M : Type 1} → statement M
+put-three-spec =
+    tie.close
+    (tie.spec put-cell-requires put-cell-requires-2 put-cell-requires-3 same-length returns)

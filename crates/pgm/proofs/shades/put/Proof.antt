@@ -1,0 +1,142 @@
+use mir.Facts.{toZ-ofZ}
+use mir.Syntax.{w32}
+use mir.Val.{SFits}
+use denote.Ref.{now}
+use Prim.Native.Nat.{ℕ, suc, _+_, _-_, _*_, _≤_, _<_}
+use native.Mathlib.Omega.{arith}
+use native.Mathlib.Numerals.{add-one}
+use mathlib.Core.Path.{_≡_, refl, ap, _∙_}
+use mathlib.Core.List.{List, _++_}
+use lib.ListN.{length, getD, drop, set, length-set}
+use Rattle.arith.specs.Tab.{grid}
+use Rattle.arith.proofs.Passes.{grid-none}
+use Rattle.pgm.specs.Shade.{shade, byteOf, wordGood}
+use Rattle.pgm.proofs.Mapping.{two-set}
+use lib.IntN.{ℤ, pos}
+use mathlib.Core.Bool.{true}
+use borrow.Author.Needs.{needs}
+use Rattle.pgm.proofs.shades.put.Statement.{statement}
+use Rattle.pgm.proofs.shades.put.Tie as tie
+use Rattle.pgm.proofs.shades.put.Reads as reads
+use Rattle.pgm.proofs.shades.put.Lts as lts
+use Rattle.pgm.proofs.shades.shade.Reads as shade-reads
+
+-- the bytes of pixel k
+abbrev bytes : (w : ℕ) → List ℤ → ℕ → ℕ → ℕ
+bytes w pixels k = byteOf (shade w (getD pixels k (pos 0)))
+
+abbrev Inv-loop : tie.InvT-loop
+Inv-loop pixels w n out₀ k₀ out k =
+    (k ≤ n) × (out ≡ grid k 2 (bytes w pixels) ++ drop (k * 2) out₀) × (length out ≡ length out₀) × (n * 2 ≤ length out₀)
+    × (wordGood w ≡ true) × (n ≤ length pixels)
+
+abbrev μ-loop : tie.MeasureT-loop
+μ-loop pixels w n out₀ k₀ out k = n - k
+
+-- src/shades.rt:42:5
+loop-holds : tie.Need-loop-holds Inv-loop μ-loop
+loop-holds c =
+    let s = c .before in
+    let a = s .args in
+    (search needs, grid-none 2 (bytes (a .w) (now (a .pixels))) (now (a .out)), refl, s .pre .2, s .pre .0, s .pre .1)
+
+-- src/shades.rt:43:23
+mul-shade : tie.Need-mul-shade Inv-loop μ-loop
+mul-shade c = search needs
+
+-- src/shades.rt:43:23
+shared-slice-copy-out-shade : tie.Need-shared-slice-copy-out-shade Inv-loop μ-loop
+shared-slice-copy-out-shade c = search needs
+
+-- src/shades.rt:43:13
+shade-requires : tie.Need-shade-requires Inv-loop μ-loop
+shade-requires c κs = search needs
+
+-- src/shades.rt:44:17
+mul-p : tie.Need-mul-p Inv-loop μ-loop
+mul-p c = search needs
+
+-- src/shades.rt:45:17
+add-q : tie.Need-add-q Inv-loop μ-loop
+add-q c = search needs
+
+-- src/shades.rt:46:18
+cast-out : tie.Need-cast-out Inv-loop μ-loop
+cast-out c = search needs
+
+-- src/shades.rt:46:9
+slice-write-out : tie.Need-slice-write-out Inv-loop μ-loop
+slice-write-out c = search needs
+
+-- src/shades.rt:47:18
+cast-out-2 : tie.Need-cast-out-2 Inv-loop μ-loop
+cast-out-2 c = search needs
+
+-- src/shades.rt:47:9
+slice-write-out-2 : tie.Need-slice-write-out-2 Inv-loop μ-loop
+slice-write-out-2 c = let i = c .before .before .before .loop .inv in let x = i .2 in let y = i .3 in simp length-set (omega arith)
+
+-- src/shades.rt:48:9
+add-k : tie.Need-add-k Inv-loop μ-loop
+add-k c = search needs
+
+-- src/shades.rt:42:5
+loop-less : tie.Need-loop-less Inv-loop μ-loop
+loop-less c = omega arith
+
+-- src/shades.rt:42:5
+loop-again : tie.Need-loop-again Inv-loop μ-loop
+unfolding byteOf
+loop-again c =
+    let l = c .before .before .before in
+    let a = l .before .before .args in
+    let i = l .loop .inv in
+    let k = l .loop .k in
+    let x = i .2 in
+    let y = i .3 in
+    let g = bytes (a .w) (now (a .pixels)) in
+    let f : SFits w32 (getD (now (a .pixels)) k (pos 0)) = search needs in
+    let e = rw (toZ-ofZ f) at (c .shade .ensures .0) in (
+      search needs,
+      rw (add-one k, e)
+          (ap (λ out. set (set out (k * 2) (g k 0)) (k * 2 + 1) (g k 1)) (i .1) ∙ two-set k g (now (a .out)) 0 (omega arith)),
+      simp length-set (i .2),
+      i .3,
+      i .4,
+      i .5,
+    )
+
+-- src/shades.rt:37:1
+same-length : tie.Need-same-length Inv-loop μ-loop
+same-length c = c .before .loop .inv .2
+
+-- src/shades.rt:37:1
+returns : tie.Need-returns Inv-loop μ-loop
+returns c =
+    let l = c .before in
+    let a = l .before .before .args in
+    let i = l .loop .inv in
+    let e : l .loop .k ≡ a .n = omega arith in
+    i .1 ∙ ap (λ n. grid n 2 (bytes (a .w) (now (a .pixels))) ++ drop (n * 2) (now (a .out))) e
+
+pub put-spec : {M : Type 1} → statement M
+put-spec =
+    tie.close
+    (tie.spec
+    Inv-loop
+    μ-loop
+    loop-holds
+    mul-shade
+    shared-slice-copy-out-shade
+    shade-requires
+    mul-p
+    add-q
+    cast-out
+    slice-write-out
+    cast-out-2
+    slice-write-out-2
+    add-k
+    loop-less
+    loop-again
+    same-length
+    returns)

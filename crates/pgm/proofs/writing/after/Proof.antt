@@ -1,0 +1,20 @@
+use Rattle.pgm.specs.Text.{after}
+use borrow.Author.Tests.{le-leb, lt-leb, eq-eqb, ne-eqb}
+use borrow.Author.Needs.{needs}
+use Rattle.pgm.proofs.writing.after.Statement.{statement}
+use Rattle.pgm.proofs.writing.after.Tie as tie
+use Rattle.pgm.proofs.writing.after.Reads as reads
+use Rattle.pgm.proofs.writing.after.Lts as lts
+
+-- src/writing.rt:25:1
+returns : tie.Need-returns
+unfolding after
+returns c = rw (eq-eqb _ _ (c .if1 .taken))
+
+-- src/writing.rt:25:1
+returns-2 : tie.Need-returns-2
+unfolding after
+returns-2 c = rw (ne-eqb _ _ (c .if1 .left))
+
+pub after-spec : {M : Type 1} → statement M
+after-spec = tie.close (tie.spec returns returns-2)

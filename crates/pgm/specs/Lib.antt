@@ -1,0 +1,4 @@
+pub mod Grammar
+pub mod Raster
+pub mod Shade
+pub mod Text

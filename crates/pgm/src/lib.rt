@@ -1,0 +1,27 @@
+// Binary PGM pictures: the header of one that comes in, the samples of its rows, and the 16-bit picture or the decimal
+// text of filtered rows that go out.
+mod lexing;
+mod parsing;
+mod reading;
+mod shades;
+mod writing;
+
+pub use parsing::header;
+pub use reading::decode;
+pub use shades::encode;
+pub use writing::head;
+pub use writing::line;
+
+// What the first bytes of a file come to.
+pub enum Opening {
+    // width, height, maxval, and the length of the header: the samples begin there
+    Whole(u32, u32, u32, usize),
+    // the bytes are the beginning of a header
+    More,
+    // they begin with no P5 and white space
+    Foreign,
+    // number 0 (width), 1 (height) or 2 (maxval) does not begin at this byte; 3: it is no white space after the last number
+    Bad(u32, usize),
+    // the number that begins at this byte is above 65,535
+    Large(u32, usize),
+}
