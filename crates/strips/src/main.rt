@@ -1,82 +1,58 @@
-// The papers' strips that carry no mark, executed: one line each, what was tried and what came out.
-mod files;
+// The papers' strips that carry no mark, executed, with the questions and traps around them. The strips stand in the
+// input, a command to a line; what is written is each line, with the answer after it.
+//
+//   # words                   a title
+//   table BYTES               load this table file (hexadecimal); the number of the table check after the verdict
+//   empty                     the table without its rectangles
+//   hold SAMPLES SUMS OUT     how many places of the stores and the output are lent from here on
+//   begin L                   start a scan
+//   row X X ..                a row
+//   close                     close the scan
+//   step                      a closing step
+//   numbers ROWS STEPS CLOSED the numbers of the state, set by hand
+//   keep I X, alter I X       a kept sample, a column sum, set by hand
+//   view I                    a kept sample
+//   pixel L R C N X X ..      the one-pixel call on a scan of N samples, these first and zeros after them
+mod commands;
+mod desk;
+mod told;
+mod words;
 
-use layout::Table;
-use libc::STDOUT_FILENO;
-use pixel::Found;
+ghost use Prim.Native.Nat.{_≤_};
+ghost use lib.ListN.{length};
+use commands::command;
+use desk::fresh;
+use libc::STDIN_FILENO;
 
-fn say(what: &[u8], number: u32) {
-    io::write_all(STDOUT_FILENO, what);
-    io::print_decimal(STDOUT_FILENO, number as u64);
-    io::write_all(STDOUT_FILENO, b"\n");
-}
-
-fn tried(what: &[u8], bytes: &[u8]) {
-    say(what, table::table_check(bytes));
-}
-
-fn edges() {
-    tried(b"b 12: ", &files::single(12, 0, 255));
-    tried(b"b 13: ", &files::single(13, 0, 255));
-    tried(b"lead 15: ", &files::single(8, 15, 255));
-    tried(b"lead 16: ", &files::single(8, 16, 255));
-    tried(b"trail -16: ", &files::single(8, 0, 240));
-    tried(b"trail -17: ", &files::single(8, 0, 239));
-    tried(b"trail equal to lead: ", &files::single(8, 3, 3));
-}
-
-fn counts() {
-    let many = files::seventeen();
-    tried(b"sixteen rectangles: ", &many[..153]);
-    tried(b"a seventeenth field: ", &many);
-}
-
-fn found(what: &[u8], answer: Found) {
-    match answer {
-        Found::Pixel(_) => accepted(what),
-        Found::Refused(number, place) => refused(what, number, place),
+// The end of the line that starts here.
+fn line_end(text: &[u8], start: usize) -> usize
+    requires { ⌜ start ≤ length (now text) ⌝ }
+    ensures { λ r. ⌜ (start ≤ r) × (r ≤ length (now (text .entry))) ⌝ }
+{
+    let mut i = start;
+    while i < text.len() {
+        if text[i] == b'\n' {
+            return i;
+        }
+        i += 1;
     }
-    io::write_all(STDOUT_FILENO, b"\n");
+    i
 }
 
-fn accepted(what: &[u8]) {
-    io::write_all(STDOUT_FILENO, what);
-    io::write_all(STDOUT_FILENO, b"accepted");
-}
-
-fn refused(what: &[u8], number: u32, place: u32) {
-    io::write_all(STDOUT_FILENO, what);
-    io::write_all(STDOUT_FILENO, b"refused ");
-    io::print_decimal(STDOUT_FILENO, number as u64);
-    io::write_all(STDOUT_FILENO, b" ");
-    io::print_decimal(STDOUT_FILENO, place as u64);
-}
-
-fn widths(t: Table) {
-    let row = [0u16; 1025];
-    found(b"pixel, L 0: ", pixel::pixel(t, 0, &row, 0, 0));
-    found(
-        b"pixel, L 1024: ",
-        pixel::pixel(t, 1024, &row[..1024], 0, 1023),
-    );
-    found(b"pixel, L 1025: ", pixel::pixel(t, 1025, &row, 0, 0));
-}
-
-fn samples(t: Table) {
-    found(
-        b"pixel, sample 255: ",
-        pixel::pixel(t, 6, &[0, 0, 0, 0, 255, 0], 0, 0),
-    );
-    found(
-        b"pixel, sample 256 in column 4: ",
-        pixel::pixel(t, 6, &[0, 0, 0, 0, 256, 0], 0, 0),
-    );
+fn all(text: &[u8]) {
+    let mut kept = [0u16; 32768];
+    let mut sums = [0u32; 1024];
+    let mut d = fresh();
+    let mut start = 0;
+    while start < text.len() {
+        let end = line_end(text, start);
+        d = command(&text[start..end], d, &mut kept, &mut sums);
+        start = end + 1;
+    }
 }
 
 fn main() {
-    edges();
-    counts();
-    let single = table::load(&files::single(8, 0, 255));
-    widths(single.table);
-    samples(single.table);
+    let mut text = [0u8; 16384];
+    let n = io::read_full(STDIN_FILENO, &mut text);
+    all(&text[..n]);
 }
