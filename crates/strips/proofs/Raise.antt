@@ -50,7 +50,3 @@ module _ (w : Width) (z : ℤ) (f : SFits w z) (t : T (leb (hbits w) 31)) where
       T (nonNeg (toZ w64 (ofZ w64 (toZ w64 (ofZ w64 (toZ w (ofZ w z))) +ℤ pos (2 ^ hbits w)))))
       × Fits w64 (natAbs (toZ w64 (ofZ w64 (toZ w64 (ofZ w64 (toZ w (ofZ w z))) +ℤ pos (2 ^ hbits w)))))
   cast-fits = rw result (tt, record { fits = let p = in-word in omega arith })
-
-  pub value-small :
-      natAbs (toZ w64 (ofZ w64 (toZ w64 (ofZ w64 (toZ w (ofZ w z))) +ℤ pos (2 ^ hbits w)))) < 2 ^ hbits w + 2 ^ hbits w
-  value-small = rw result (up .small)

@@ -1,25 +1,18 @@
-// The commands.
+// The commands, each known by its first letter. They are handed the numbers of their line, n, and how many these are, k;
+// zeros come after them.
 use crate::desk::Desk;
-use crate::desk::Room;
-use crate::desk::with_room;
-use crate::desk::with_scan;
-use crate::desk::with_table;
 use crate::told;
-use crate::words::Numbers;
 use crate::words::bytes;
 use crate::words::least;
 use crate::words::letter;
+use crate::words::long;
 use crate::words::number;
-use crate::words::numbers_of;
-use crate::words::sample;
-use crate::words::samples;
+use crate::words::numbers;
 use layout::Table;
-use libc::STDOUT_FILENO;
 use scan::Scan;
 
-// ---- the table, the lent places, the numbers of the state
+// ---- the table and the numbers of the state
 
-// A file loaded, and its table.
 fn loaded(file: &[u8]) -> Table {
     let l = table::load(file);
     let v = l.verdict;
@@ -28,20 +21,21 @@ fn loaded(file: &[u8]) -> Table {
     l.table
 }
 
-// A file of the first n bytes.
-fn loaded_part(file: &[u8], n: usize) -> Table {
-    let n = least(n, file.len());
-    loaded(&file[0..n])
+fn loaded_part(file: &[u8], k: usize) -> Table {
+    let e = least(k, file.len());
+    loaded(&file[0..e])
 }
 
-fn table_of(n: Numbers) -> Table {
+fn load(n: &[u16], k: usize) -> Table {
     let mut file = [0u8; 256];
     bytes(n, &mut file);
-    loaded_part(&file, n.count)
+    loaded_part(&file, k)
 }
 
-fn load(n: Numbers, s: Scan) -> Scan {
-    with_table(s, table_of(n))
+fn with_table(s: Scan, t: Table) -> Scan {
+    let mut after = s;
+    after.table = t;
+    after
 }
 
 fn empty(s: Scan) -> Scan {
@@ -50,10 +44,10 @@ fn empty(s: Scan) -> Scan {
     with_table(s, t)
 }
 
-fn set_numbers(n: Numbers, s: Scan) -> Scan {
+fn set_state(n: &[u16], s: Scan) -> Scan {
     let mut after = s;
-    after.rows = number(n, 1);
-    after.steps = number(n, 2);
+    after.rows = number(n, 0) as u32 + number(n, 1) as u32;
+    after.steps = number(n, 2) as u32;
     after.closed = number(n, 3) != 0;
     after
 }
@@ -65,139 +59,76 @@ fn close(s: Scan) -> Scan {
     c.scan
 }
 
-fn hold(n: Numbers) -> Room {
-    Room {
-        samples: number(n, 1) as usize,
-        sums: number(n, 2) as usize,
-        out: number(n, 3) as usize,
-    }
-}
-
 // ---- the one-pixel call
 
-fn pixel_of(n: Numbers, t: Table, lent: &[u16]) {
-    let width = number(n, 1) as usize;
-    let r = number(n, 2) as usize;
-    let c = number(n, 3) as usize;
-    told::found(pixel::pixel(t, width, lent, r, c));
+fn pixel_of(n: &[u16], t: Table, lent: &[u16]) {
+    let f = pixel::pixel(t, long(n, 0), lent, long(n, 1), long(n, 2));
+    told::found(f);
 }
 
-fn pixel_part(n: Numbers, t: Table, given: &[u16]) {
-    let lent = least(number(n, 4) as usize, given.len());
-    pixel_of(n, t, &given[0..lent]);
-}
-
-fn pixel(n: Numbers, t: Table) {
-    let mut given = [0u16; 2048];
-    samples(n, 5, &mut given);
-    pixel_part(n, t, &given);
+fn pixel(n: &[u16], t: Table) {
+    let e = least(long(n, 3), 1025) + 4;
+    if e <= n.len() {
+        pixel_of(n, t, &n[4..e]);
+    }
 }
 
 // ---- the stores
-
-fn keep(n: Numbers, kept: &mut [u16]) {
-    let i = number(n, 1) as usize;
-    if i < kept.len() {
-        kept[i] = sample(n, 2);
-    }
-}
-
-fn alter(n: Numbers, sums: &mut [u32]) {
-    let i = number(n, 1) as usize;
-    if i < sums.len() {
-        sums[i] = number(n, 2);
-    }
-}
 
 fn wide(x: u16) -> u32 {
     x as u32
 }
 
-fn view(n: Numbers, kept: &[u16]) {
-    let i = number(n, 1) as usize;
+fn keep(n: &[u16], kept: &mut [u16]) {
+    let i = long(n, 0);
     if i < kept.len() {
         told::put_number(b" = ", wide(kept[i]));
+        kept[i] = number(n, 1);
     }
 }
 
-// ---- the scan, with the lent parts of the stores
+fn alter(n: &[u16], sums: &mut [u32]) {
+    let i = long(n, 0);
+    if i < sums.len() {
+        sums[i] = wide(number(n, 1));
+    }
+}
 
-fn begin_with(s: Scan, width: usize, kept: &mut [u16], sums: &mut [u32]) -> Scan {
-    let b = scan::start(s.table, width, kept, sums);
+// ---- the scan
+
+fn begin(n: &[u16], s: Scan, kept: &mut [u16], sums: &mut [u32]) -> Scan {
+    let b = scan::start(s.table, long(n, 0), kept, sums);
     let v = b.verdict;
     told::verdict(v);
     b.scan
 }
 
-fn row_with(s: Scan, given: &[u16], kept: &mut [u16], sums: &mut [u32], out: &mut [i32]) -> Scan {
+fn row(s: Scan, given: &[u16], kept: &mut [u16], sums: &mut [u32], out: &mut [i32]) -> Scan {
     let m = scan::row(s, given, kept, sums, out);
     let a = m.answer;
-    if told::answer(a) {
-        told::put_pixels(out, s.width);
-    }
+    told::row(a, s.width, out);
     m.scan
 }
 
-fn step_with(s: Scan, kept: &mut [u16], sums: &mut [u32], out: &mut [i32]) -> Scan {
+fn step(s: Scan, kept: &mut [u16], sums: &mut [u32], out: &mut [i32]) -> Scan {
     let m = scan::step(s, kept, sums, out);
     let a = m.answer;
-    if told::closing(a) {
-        told::put_pixels(out, s.width);
-    }
+    told::step(a, s.width, out);
     m.scan
-}
-
-fn begin(n: Numbers, d: Desk, kept: &mut [u16], sums: &mut [u32]) -> Scan {
-    let r = d.room;
-    let a = least(r.samples, kept.len());
-    let b = least(r.sums, sums.len());
-    let width = number(n, 1) as usize;
-    begin_with(d.scan, width, &mut kept[0..a], &mut sums[0..b])
-}
-
-fn row_part(n: Numbers, d: Desk, given: &[u16], kept: &mut [u16], sums: &mut [u32]) -> Scan {
-    let mut out = [0i32; 8];
-    let r = d.room;
-    let l = least(n.count, given.len());
-    let a = least(r.samples, kept.len());
-    let b = least(r.sums, sums.len());
-    let c = least(r.out, 8);
-    row_with(
-        d.scan,
-        &given[0..l],
-        &mut kept[0..a],
-        &mut sums[0..b],
-        &mut out[0..c],
-    )
-}
-
-fn row(n: Numbers, d: Desk, kept: &mut [u16], sums: &mut [u32]) -> Scan {
-    let mut given = [0u16; 2048];
-    samples(n, 1, &mut given);
-    row_part(n, d, &given, kept, sums)
-}
-
-fn step(d: Desk, kept: &mut [u16], sums: &mut [u32]) -> Scan {
-    let mut out = [0i32; 8];
-    let r = d.room;
-    let a = least(r.samples, kept.len());
-    let b = least(r.sums, sums.len());
-    let c = least(r.out, 8);
-    step_with(d.scan, &mut kept[0..a], &mut sums[0..b], &mut out[0..c])
 }
 
 // ---- which command
 
-// Commands that need no store, each by its first letter: table, empty, numbers, close.
-fn alone(x: u8, n: Numbers, s: Scan) -> Scan {
+// table, empty, numbers, close
+fn alone(x: u8, n: &[u16], k: usize, s: Scan) -> Scan {
     if x == b't' {
-        return load(n, s);
+        return with_table(s, load(n, k));
     }
     if x == b'e' {
         return empty(s);
     }
     if x == b'n' {
-        return set_numbers(n, s);
+        return set_state(n, s);
     }
     if x == b'c' {
         return close(s);
@@ -205,59 +136,94 @@ fn alone(x: u8, n: Numbers, s: Scan) -> Scan {
     s
 }
 
-// keep, alter, view
-fn stored(x: u8, n: Numbers, kept: &mut [u16], sums: &mut [u32]) {
+// keep, alter
+fn stored(x: u8, n: &[u16], kept: &mut [u16], sums: &mut [u32]) {
     if x == b'k' {
         keep(n, kept);
         return;
     }
     if x == b'a' {
         alter(n, sums);
-        return;
-    }
-    if x == b'v' {
-        view(n, kept);
     }
 }
 
-// begin, row, step, and those on the stores
-fn moved(x: u8, n: Numbers, d: Desk, kept: &mut [u16], sums: &mut [u32]) -> Scan {
+// begin, keep, alter
+fn set(x: u8, n: &[u16], s: Scan, kept: &mut [u16], sums: &mut [u32]) -> Scan {
     if x == b'b' {
-        return begin(n, d, kept, sums);
-    }
-    if x == b'r' {
-        return row(n, d, kept, sums);
-    }
-    if x == b's' {
-        return step(d, kept, sums);
+        return begin(n, s, kept, sums);
     }
     stored(x, n, kept, sums);
-    d.scan
+    s
+}
+
+// row, step, and those above
+fn moved(x: u8, n: &[u16], s: Scan, kept: &mut [u16], sums: &mut [u32], out: &mut [i32]) -> Scan {
+    if x == b'r' {
+        return row(s, n, kept, sums, out);
+    }
+    if x == b's' {
+        return step(s, kept, sums, out);
+    }
+    set(x, n, s, kept, sums)
+}
+
+// The same with the numbers of the line, and this many places of the output.
+fn moved_part(
+    x: u8,
+    n: &[u16],
+    k: usize,
+    s: Scan,
+    places: usize,
+    kept: &mut [u16],
+    sums: &mut [u32],
+) -> Scan {
+    let mut out = [0i32; 8];
+    let e = least(k, n.len());
+    let c = least(places, 8);
+    moved(x, &n[0..e], s, kept, sums, &mut out[0..c])
+}
+
+// The same with the lent parts of the stores.
+fn lend(x: u8, n: &[u16], k: usize, d: Desk, kept: &mut [u16], sums: &mut [u32]) -> Scan {
+    let a = least(d.samples, kept.len());
+    let b = least(d.sums, sums.len());
+    moved_part(x, n, k, d.scan, d.out, &mut kept[0..a], &mut sums[0..b])
+}
+
+fn hold(n: &[u16], d: Desk) -> Desk {
+    let mut after = d;
+    after.samples = long(n, 0);
+    after.sums = long(n, 1);
+    after.out = long(n, 2);
+    after
 }
 
 // hold, pixel
-fn seen(x: u8, n: Numbers, d: Desk) -> Room {
+fn seen(x: u8, n: &[u16], d: Desk) -> Desk {
     if x == b'h' {
-        return hold(n);
+        return hold(n, d);
     }
     if x == b'p' {
         let s = d.scan;
         pixel(n, s.table);
     }
-    d.room
+    d
 }
 
-fn obey(x: u8, n: Numbers, d: Desk, kept: &mut [u16], sums: &mut [u32]) -> Desk {
-    let scan = alone(x, n, moved(x, n, d, kept, sums));
-    let d = with_room(d, seen(x, n, d));
-    with_scan(d, scan)
+fn obey(x: u8, n: &[u16], k: usize, d: Desk, kept: &mut [u16], sums: &mut [u32]) -> Desk {
+    let s = lend(x, n, k, d, kept, sums);
+    let mut after = d;
+    after.scan = alone(x, n, k, s);
+    seen(x, n, after)
 }
 
 // A line: written, done, and its answer written after it.
 pub fn command(line: &[u8], d: Desk, kept: &mut [u16], sums: &mut [u32]) -> Desk {
-    io::write_all(STDOUT_FILENO, line);
+    told::put(line);
     let x = letter(line);
-    let after = obey(x, numbers_of(line, x == b't'), d, kept, sums);
-    io::write_all(STDOUT_FILENO, b"\n");
+    let mut at = [0u16; 2048];
+    let k = numbers(line, x == b't', &mut at);
+    let after = obey(x, &at, k, d, kept, sums);
+    told::put(b"\n");
     after
 }

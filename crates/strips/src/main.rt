@@ -1,18 +1,18 @@
 // The papers' strips that carry no mark, executed, with the questions and traps around them. The strips stand in the
 // input, a command to a line; what is written is each line, with the answer after it.
 //
-//   # words                   a title
-//   table BYTES               load this table file (hexadecimal); the number of the table check after the verdict
-//   empty                     the table without its rectangles
-//   hold SAMPLES SUMS OUT     how many places of the stores and the output are lent from here on
-//   begin L                   start a scan
-//   row X X ..                a row
-//   close                     close the scan
-//   step                      a closing step
-//   numbers ROWS STEPS CLOSED the numbers of the state, set by hand
-//   keep I X, alter I X       a kept sample, a column sum, set by hand
-//   view I                    a kept sample
-//   pixel L R C N X X ..      the one-pixel call on a scan of N samples, these first and zeros after them
+//   # words                       a title
+//   hold SAMPLES SUMS OUT         how many places of the stores and of the output are lent from here on
+//   table BYTES                   load this file, in hexadecimal; after the verdict, the number of the table check
+//   empty                         the table without its rectangles
+//   begin L                       start a scan
+//   row X X ..                    a row
+//   close                         close the scan
+//   step                          a closing step
+//   numbers ROWS MORE STEPS SHUT  the state set by hand: ROWS + MORE rows, these steps, closed where SHUT is not 0
+//   keep I X                      a kept sample set by hand; answers what stood there
+//   alter I X                     a column sum set by hand
+//   pixel L R C N X X ..          the one-pixel call on a scan of N samples, these first and zeros after them
 mod commands;
 mod desk;
 mod told;

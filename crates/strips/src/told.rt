@@ -6,12 +6,12 @@ use pixel::Found;
 use scan::Answer;
 use scan::Closing;
 
-fn put(what: &[u8]) {
+pub fn put(what: &[u8]) {
     io::write_all(STDOUT_FILENO, what);
 }
 
 pub fn put_number(what: &[u8], number: u32) {
-    io::write_all(STDOUT_FILENO, what);
+    put(what);
     io::print_decimal(STDOUT_FILENO, number as u64);
 }
 
@@ -28,17 +28,16 @@ fn raised(z: i32) -> u64 {
 fn put_signed(z: i32) {
     let x = raised(z);
     if x < 2147483648 {
-        io::write_all(STDOUT_FILENO, b" -");
+        put(b" -");
         io::print_decimal(STDOUT_FILENO, 2147483648 - x);
     } else {
-        io::write_all(STDOUT_FILENO, b" ");
+        put(b" ");
         io::print_decimal(STDOUT_FILENO, x - 2147483648);
     }
 }
 
-// The pixels of a row of this width.
-pub fn put_pixels(out: &[i32], width: usize) {
-    put(b":");
+// The first pixels of the output.
+fn put_pixels(out: &[i32], width: usize) {
     let n = least(width, out.len());
     let mut c = 0;
     while c < n {
@@ -54,42 +53,67 @@ pub fn verdict(v: Verdict) {
     }
 }
 
+fn put_pixel(z: i32) {
+    put(b" =");
+    put_signed(z);
+}
+
 pub fn found(f: Found) {
     match f {
-        Found::Pixel(z) => {
-            put(b" =");
-            put_signed(z);
-        }
+        Found::Pixel(z) => put_pixel(z),
         Found::Refused(number, place) => put_refused(number, place),
     }
 }
 
-// Answers whether a filtered row came out.
-pub fn answer(a: Answer) -> bool {
+// The answers to a row and to a closing step, each with whether a filtered row came out.
+
+fn row_out(number: u32) -> bool {
+    put_number(b" = row ", number);
+    put(b":");
+    true
+}
+
+fn waiting() -> bool {
+    put(b" = waiting");
+    false
+}
+
+fn done() -> bool {
+    put(b" = done");
+    false
+}
+
+fn refused(number: u32, place: u32) -> bool {
+    put_refused(number, place);
+    false
+}
+
+fn answer(a: Answer) -> bool {
     match a {
-        Answer::Row(number) => {
-            put_number(b" = row ", number);
-            true
-        }
-        Answer::Waiting => {
-            put(b" = waiting");
-            false
-        }
-        Answer::Refused(number, place) => {
-            put_refused(number, place);
-            false
-        }
+        Answer::Row(number) => row_out(number),
+        Answer::Waiting => waiting(),
+        Answer::Refused(number, place) => refused(number, place),
     }
 }
 
-pub fn closing(a: Closing) -> bool {
+fn closing(a: Closing) -> bool {
     match a {
-        Closing::Row(number) => answer(Answer::Row(number)),
-        Closing::Waiting => answer(Answer::Waiting),
-        Closing::Done => {
-            put(b" = done");
-            false
-        }
-        Closing::Refused(number, place) => answer(Answer::Refused(number, place)),
+        Closing::Row(number) => row_out(number),
+        Closing::Waiting => waiting(),
+        Closing::Done => done(),
+        Closing::Refused(number, place) => refused(number, place),
+    }
+}
+
+// The answer to a row, with the pixels that came out.
+pub fn row(a: Answer, width: usize, out: &[i32]) {
+    if answer(a) {
+        put_pixels(out, width);
+    }
+}
+
+pub fn step(a: Closing, width: usize, out: &[i32]) {
+    if closing(a) {
+        put_pixels(out, width);
     }
 }

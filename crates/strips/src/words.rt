@@ -1,14 +1,15 @@
-// A line taken apart: the letter of its command and its numbers.
-ghost use Prim.Native.Nat.{_≤_};
-
-// The numbers of a line, from place 1 on, zeros after them.
-pub struct Numbers {
-    pub count: usize,
-    pub at: [u32; 257],
-}
+// A line taken apart: the letter of its command and its numbers, of up to 16 bits each.
+ghost use Prim.Native.Nat.{_≤_, _<_};
+ghost use lib.ListN.{length};
 
 pub fn letter(line: &[u8]) -> u8 {
     if 0 < line.len() { line[0] } else { 0 }
+}
+
+pub fn least(a: usize, b: usize) -> usize
+    ensures { λ r. ⌜ r ≤ b ⌝ }
+{
+    if a < b { a } else { b }
 }
 
 // The value of a digit, decimal or hexadecimal.
@@ -22,76 +23,77 @@ fn digit(x: u8) -> u32 {
     (x - 55) as u32
 }
 
+fn low(m: u32) -> u16 {
+    (m % 65536) as u16
+}
+
 // A number with one more digit; a space adds none.
-fn grown(n: u32, x: u8, hex: bool) -> u32 {
+fn grown(n: u16, x: u8, hex: bool) -> u16 {
     if x == b' ' {
         return n;
     }
-    let m = n % 16777216;
+    let m = n as u32 % 65536;
+    let y = digit(x) % 16;
     if hex {
-        return m * 16 + digit(x) % 16;
+        return low(m * 16 + y);
     }
-    m * 10 + digit(x) % 10
+    low(m * 10 + y)
 }
 
-// The place of the number that this byte belongs to.
-fn place(k: usize, x: u8) -> usize
+// How many spaces are past, this byte with them, 256 at most.
+fn spaces(k: usize, x: u8) -> usize
     ensures { λ r. ⌜ r ≤ 256 ⌝ }
 {
     if x != b' ' {
         return least(k, 256);
     }
-    if k < 256 { k + 1 } else { 256 }
+    least(k, 255) + 1
 }
 
-pub fn least(a: usize, b: usize) -> usize
-    ensures { λ r. ⌜ r ≤ b ⌝ }
+// Where the number after so many spaces is put; what stands before the first is put last.
+fn place(k: usize) -> usize
+    ensures { λ r. ⌜ r < 2048 ⌝ }
 {
-    if a < b { a } else { b }
+    if k == 0 {
+        return 2047;
+    }
+    least(k - 1, 2046)
 }
 
-pub fn numbers_of(line: &[u8], hex: bool) -> Numbers {
-    let mut at = [0u32; 257];
+// The numbers of a line; answers how many they are.
+pub fn numbers(line: &[u8], hex: bool, at: &mut [u16]) -> usize
+    requires { ⌜ 2048 ≤ length (now at) ⌝ }
+{
     let mut k = 0;
     let mut i = 0;
     while i < line.len() {
         let x = line[i];
-        k = place(k, x);
-        at[k] = grown(at[k], x, hex);
+        k = spaces(k, x);
+        let p = place(k);
+        at[p] = grown(at[p], x, hex);
         i += 1;
     }
-    Numbers { count: k, at }
+    k
 }
 
-// A number of a line, 0 past its end.
-pub fn number(n: Numbers, k: usize) -> u32 {
-    if k < 257 { n.at[k] } else { 0 }
+// A number, counted from 0; 0 past the end.
+pub fn number(n: &[u16], k: usize) -> u16 {
+    if k < n.len() { n[k] } else { 0 }
 }
 
-pub fn byte(n: Numbers, k: usize) -> u8 {
+pub fn long(n: &[u16], k: usize) -> usize {
+    number(n, k) as usize
+}
+
+fn byte(n: &[u16], k: usize) -> u8 {
     (number(n, k) % 256) as u8
 }
 
-pub fn sample(n: Numbers, k: usize) -> u16 {
-    (number(n, k) % 65536) as u16
-}
-
 // The numbers as the bytes of a file.
-pub fn bytes(n: Numbers, into: &mut [u8]) {
+pub fn bytes(n: &[u16], file: &mut [u8]) {
     let mut k = 0;
-    while k < into.len() {
-        into[k] = byte(n, k + 1);
-        k += 1;
-    }
-}
-
-// The numbers from this one on as samples.
-pub fn samples(n: Numbers, first: usize, into: &mut [u16])
-    requires { ⌜ first ≤ 5 ⌝ }
-{
-    let mut k = 0;
-    while k < into.len() {
-        into[k] = sample(n, first + k);
+    while k < file.len() {
+        file[k] = byte(n, k);
         k += 1;
     }
 }

@@ -1,14 +1,11 @@
+-- `strips::all` is safe and ends. The stores keep their lengths; each turn starts further on in the text.
+-- Assumes nothing.
 use Prim.Native.Nat.{_-_, _≤_}
 use lib.ListN.{length}
 use mathlib.Core.Path.{_≡_}
 use borrow.Author.Needs.{needs}
 use Rattle.strips.proofs.all.Statement.{statement}
 use Rattle.strips.proofs.all.Tie as tie
-use Rattle.strips.proofs.all.Reads as reads
-use Rattle.strips.proofs.all.Lts as lts
-use Rattle.strips.proofs.commands.command.Reads as command-reads
-use Rattle.strips.proofs.desk.fresh.Reads as fresh-reads
-use Rattle.strips.proofs.line_end.Reads as line-end-reads
 
 abbrev Inv-loop : tie.InvT-loop
 Inv-loop text kept₀ sums₀ d₀ start₀ kept sums d start = (length kept ≡ 32768) × (length sums ≡ 1024)
@@ -16,55 +13,42 @@ Inv-loop text kept₀ sums₀ d₀ start₀ kept sums d start = (length kept ≡
 abbrev μ-loop : tie.MeasureT-loop
 μ-loop text kept₀ sums₀ d₀ start₀ kept sums d start = length text - start
 
--- src/main.rt:45:9
 fresh-requires : tie.Need-fresh-requires Inv-loop μ-loop
 fresh-requires c κs = search needs
 
--- src/main.rt:47:5
 loop-holds : tie.Need-loop-holds Inv-loop μ-loop
 loop-holds c = search needs
 
--- src/main.rt:48:13
 line-end-requires : tie.Need-line-end-requires Inv-loop μ-loop
 line-end-requires c κs = search needs
 
--- src/main.rt:49:21
 sub-command : tie.Need-sub-command Inv-loop μ-loop
 sub-command c = search needs
 
--- src/main.rt:49:21
 part-command-start : tie.Need-part-command-start Inv-loop μ-loop
 part-command-start c = search needs
 
--- src/main.rt:49:21
 part-command-end : tie.Need-part-command-end Inv-loop μ-loop
 part-command-end c = search needs
 
--- src/main.rt:49:43
 slice-aggregate-command : tie.Need-slice-aggregate-command Inv-loop μ-loop
 slice-aggregate-command c = search needs
 
--- src/main.rt:49:54
 slice-aggregate-command-2 : tie.Need-slice-aggregate-command-2 Inv-loop μ-loop
 slice-aggregate-command-2 c = search needs
 
--- src/main.rt:49:9
 command-requires : tie.Need-command-requires Inv-loop μ-loop
 command-requires c κs = search needs
 
--- src/main.rt:50:17
 add-start : tie.Need-add-start Inv-loop μ-loop
 add-start c = search needs
 
--- src/main.rt:47:5
 loop-less : tie.Need-loop-less Inv-loop μ-loop
 loop-less c = search needs
 
--- src/main.rt:47:5
 loop-again : tie.Need-loop-again Inv-loop μ-loop
 loop-again c = search needs
 
--- src/main.rt:42:1
 returns : tie.Need-returns Inv-loop μ-loop
 returns c = search needs
 
