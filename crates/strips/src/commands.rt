@@ -121,29 +121,21 @@ fn step(s: Scan, kept: &mut [u16], sums: &mut [u32], out: &mut [i32]) -> Scan {
 
 // table, empty, numbers, close
 fn alone(x: u8, n: &[u16], k: usize, s: Scan) -> Scan {
-    if x == b't' {
-        return with_table(s, load(n, k));
+    match x {
+        b't' => with_table(s, load(n, k)),
+        b'e' => empty(s),
+        b'n' => set_state(n, s),
+        b'c' => close(s),
+        _ => s,
     }
-    if x == b'e' {
-        return empty(s);
-    }
-    if x == b'n' {
-        return set_state(n, s);
-    }
-    if x == b'c' {
-        return close(s);
-    }
-    s
 }
 
 // keep, alter
 fn stored(x: u8, n: &[u16], kept: &mut [u16], sums: &mut [u32]) {
-    if x == b'k' {
-        keep(n, kept);
-        return;
-    }
-    if x == b'a' {
-        alter(n, sums);
+    match x {
+        b'k' => keep(n, kept),
+        b'a' => alter(n, sums),
+        _ => {}
     }
 }
 
@@ -158,13 +150,11 @@ fn set(x: u8, n: &[u16], s: Scan, kept: &mut [u16], sums: &mut [u32]) -> Scan {
 
 // row, step, and those above
 fn moved(x: u8, n: &[u16], s: Scan, kept: &mut [u16], sums: &mut [u32], out: &mut [i32]) -> Scan {
-    if x == b'r' {
-        return row(s, n, kept, sums, out);
+    match x {
+        b'r' => row(s, n, kept, sums, out),
+        b's' => step(s, kept, sums, out),
+        _ => set(x, n, s, kept, sums),
     }
-    if x == b's' {
-        return step(s, kept, sums, out);
-    }
-    set(x, n, s, kept, sums)
 }
 
 // The same with the numbers of the line, and this many places of the output.
