@@ -6,5 +6,6 @@ pub mod Delays
 pub mod Carries
 pub mod Rectangles
 pub mod Taken
+pub mod Theorems
 pub mod States
 pub mod Rooms

@@ -61,7 +61,7 @@ most-scaled t d h =
     let p = mul-le-mul-left (rowsOf d) m in
     omega arith
 
-line-most : (v : Arrival) (k : ℕ) → T (all (v .width) (sumGood v k)) → (j : ℤ) → lineAt v k j ≤ sumMost (v .table) (rect (v .table) k)
+pub line-most : (v : Arrival) (k : ℕ) → T (all (v .width) (sumGood v k)) → (j : ℤ) → lineAt v k j ≤ sumMost (v .table) (rect (v .table) k)
 unfolding lineAt
 line-most v k g (negsuc j) = zero-le
 line-most v k g (pos j) = go (ltb j (v .width)) (ltb→lt j (v .width))
