@@ -48,12 +48,12 @@ outside: lib
 	@$(if $(STRIP_LIB_DIR),STRIP_LIB_DIR=$(abspath $(STRIP_LIB_DIR)) )cargo run --release --offline --quiet --manifest-path tests/Cargo.toml
 
 bench: lib
-	@bench/run.sh
 	@rt check stripfilter >target.log 2>&1 || { cat target.log; rm -f target.log; exit 1; }
 	@rm -f target.log
 	@gcc -O2 -Wall -Wextra -Ibuild bench/program.c build/libstrip.a -o build/bench-program
 	@build/bench-program target/bin/stripfilter tables/a.table build
 	@build/bench-program target/bin/stripfilter tables/even.table build
+	@bench/run.sh
 
 scan:
 	@python3 scans/make.py
