@@ -26,14 +26,14 @@ unfolding wordGood
 word-range w e =
     let t = and-yes (leb 8 w) (leb w 32) (subst T (sym e) tt) in (leb→le 8 w (t .0), leb→le w 32 (t .1))
 
--- a pixel that is b - 2^31
+-- a pixel that is b - 2^31, in a word that begins at f - 2^31
 pub shade-is :
-    (w : ℕ) {z : ℤ} {b : ℕ} → Diff z b 2147483648 → shade w z ≡ min 65535 ((b + 2 ^ (w - 1) - 2147483648) / 2 ^ (w - 16))
+    (w f : ℕ) {z : ℤ} {b : ℕ} → f + 2 ^ (w - 1) ≡ 2147483648 → Diff z b 2147483648 → shade w z ≡ min 65535 ((b - f) / 2 ^ (w - 16))
 unfolding shade
-shade-is w {z} {b} d =
+shade-is w f {z} {b} h d =
     let e = diff-posPart (diff-add d (diff-pos (2 ^ (w - 1)))) in
-    let k : 2147483648 + 0 ≡ 2147483648 = omega arith in
-    ap (λ x. min 65535 (x / 2 ^ (w - 16))) (e ∙ ap (λ m. b + 2 ^ (w - 1) - m) k)
+    let k : b + 2 ^ (w - 1) - (2147483648 + 0) ≡ b - f = omega arith in
+    ap (λ x. min 65535 (x / 2 ^ (w - 16))) (e ∙ k)
 
 module _ {A : Type 0} where
   -- two places more of a pass over lines of two

@@ -1,11 +1,31 @@
 // Question 18, on a run of samples.
 ghost use mathlib.Core.Path.{_≡_};
-ghost use lib.ListN.{length};
+ghost use Prim.Native.Nat.{ℕ, _≤_, _<_};
+ghost use lib.ListN.{length, getD};
 ghost use Rattle.arith.specs.First.{firstNot};
 ghost use Rattle.rule.specs.Questions.{atMost};
 
-// The lowest place of a sample above the limit, or the length where there is none.
-pub fn first_above(samples: &[u16], limit: u16) -> usize
+fn larger(a: u16, b: u16) -> u16
+    ensures { λ m. ⌜ (a ≤ m) × (b ≤ m) ⌝ }
+{
+    if a < b { b } else { a }
+}
+
+// The largest sample, or 0 where there is none.
+fn largest(samples: &[u16]) -> u16
+    ensures { λ m. ⌜ ((k : ℕ) → k < length (now (samples .entry)) → getD (now (samples .entry)) k 0 ≤ m) ⌝ }
+{
+    let mut m = 0;
+    let mut k = 0;
+    while k < samples.len() {
+        m = larger(m, samples[k]);
+        k += 1;
+    }
+    m
+}
+
+// The lowest place of a sample above the limit, found by a look at each.
+fn search_above(samples: &[u16], limit: u16) -> usize
     ensures { λ k. ⌜ k ≡ firstNot (length (now (samples .entry))) (atMost limit (now (samples .entry))) ⌝ }
 {
     let mut k = 0;
@@ -16,4 +36,14 @@ pub fn first_above(samples: &[u16], limit: u16) -> usize
         k += 1;
     }
     k
+}
+
+// The lowest place of a sample above the limit, or the length where there is none.
+pub fn first_above(samples: &[u16], limit: u16) -> usize
+    ensures { λ k. ⌜ k ≡ firstNot (length (now (samples .entry))) (atMost limit (now (samples .entry))) ⌝ }
+{
+    if largest(samples) <= limit {
+        return samples.len();
+    }
+    search_above(samples, limit)
 }

@@ -2,16 +2,17 @@ use mir.Facts.{toZ-ofZ}
 use mir.Syntax.{w32}
 use mir.Val.{SFits}
 use denote.Ref.{now}
-use Prim.Native.Nat.{ℕ, suc, _+_, _-_, _*_, _≤_, _<_}
+use Prim.Native.Nat.{ℕ, suc, _+_, _-_, _*_, _^_, _≤_, _<_}
 use native.Mathlib.Omega.{arith}
 use native.Mathlib.Numerals.{add-one}
 use mathlib.Core.Path.{_≡_, refl, ap, _∙_}
 use mathlib.Core.List.{List, _++_}
 use lib.ListN.{length, getD, drop, set, length-set}
+use lib.Pow.{pow-mono}
 use Rattle.arith.specs.Tab.{grid}
 use Rattle.arith.proofs.Passes.{grid-none}
 use Rattle.pgm.specs.Shade.{shade, byteOf, wordGood}
-use Rattle.pgm.proofs.Mapping.{two-set}
+use Rattle.pgm.proofs.Mapping.{word-range, two-set}
 use lib.IntN.{ℤ, pos}
 use mathlib.Core.Bool.{true}
 use borrow.Author.Needs.{needs}
@@ -19,6 +20,8 @@ use Rattle.pgm.proofs.shades.put.Statement.{statement}
 use Rattle.pgm.proofs.shades.put.Tie as tie
 use Rattle.pgm.proofs.shades.put.Reads as reads
 use Rattle.pgm.proofs.shades.put.Lts as lts
+use Rattle.arith.proofs.power.Reads as power-reads
+use Rattle.pgm.proofs.shades.excess.Reads as excess-reads
 use Rattle.pgm.proofs.shades.shade.Reads as shade-reads
 
 -- the bytes of pixel k
@@ -26,70 +29,102 @@ abbrev bytes : (w : ℕ) → List ℤ → ℕ → ℕ → ℕ
 bytes w pixels k = byteOf (shade w (getD pixels k (pos 0)))
 
 abbrev Inv-loop : tie.InvT-loop
-Inv-loop pixels w n out₀ k₀ out k =
+Inv-loop pixels w n out₀ floor low k₀ out k =
     (k ≤ n) × (out ≡ grid k 2 (bytes w pixels) ++ drop (k * 2) out₀) × (length out ≡ length out₀) × (n * 2 ≤ length out₀)
-    × (wordGood w ≡ true) × (n ≤ length pixels)
+    × (n ≤ length pixels) × (floor + 2 ^ (w - 1) ≡ 2147483648) × (low ≡ w - 16) × (w ≤ 32)
 
 abbrev μ-loop : tie.MeasureT-loop
-μ-loop pixels w n out₀ k₀ out k = n - k
+μ-loop pixels w n out₀ floor low k₀ out k = n - k
 
--- src/shades.rt:42:5
+-- src/shades.rt:44:37
+sub-power : tie.Need-sub-power Inv-loop μ-loop
+sub-power c = let r = word-range _ (c .before .pre .0) .0 in omega arith
+
+-- src/shades.rt:44:31
+power-requires : tie.Need-power-requires Inv-loop μ-loop
+power-requires c κs = search needs
+
+-- src/shades.rt:44:18
+sub-floor : tie.Need-sub-floor Inv-loop μ-loop
+sub-floor c =
+    let s = c .before .before in
+    let r = word-range _ (s .pre .0) in
+    let h = r .0 in
+    let l = r .1 in
+    let e = c .power .ensures .0 (omega arith) in
+    let m : 2 ^ (s .args .w - 1) ≤ 2 ^ 31 = pow-mono {j = 31} (omega arith) in
+    omega arith
+
+-- src/shades.rt:44:17
+cast-floor : tie.Need-cast-floor Inv-loop μ-loop
+cast-floor c = search needs
+
+-- src/shades.rt:45:9
+excess-requires : tie.Need-excess-requires Inv-loop μ-loop
+excess-requires c κs = search needs
+
+-- src/shades.rt:47:5
 loop-holds : tie.Need-loop-holds Inv-loop μ-loop
 loop-holds c =
-    let s = c .before in
+    let s = c .before .before .before in
     let a = s .args in
-    (search needs, grid-none 2 (bytes (a .w) (now (a .pixels))) (now (a .out)), refl, s .pre .2, s .pre .0, s .pre .1)
+    let r = word-range _ (s .pre .0) in
+    let h = r .0 in
+    let l = r .1 in
+    let e = c .before .power .ensures .0 (omega arith) in
+    let m : 2 ^ (a .w - 1) ≤ 2 ^ 31 = pow-mono {j = 31} (omega arith) in
+    (search needs, grid-none 2 (bytes (a .w) (now (a .pixels))) (now (a .out)), refl, s .pre .2, s .pre .1, omega arith, c .excess .ensures, l)
 
--- src/shades.rt:43:23
+-- src/shades.rt:48:23
 mul-shade : tie.Need-mul-shade Inv-loop μ-loop
 mul-shade c = search needs
 
--- src/shades.rt:43:23
+-- src/shades.rt:48:23
 shared-slice-copy-out-shade : tie.Need-shared-slice-copy-out-shade Inv-loop μ-loop
 shared-slice-copy-out-shade c = search needs
 
--- src/shades.rt:43:13
+-- src/shades.rt:48:13
 shade-requires : tie.Need-shade-requires Inv-loop μ-loop
 shade-requires c κs = search needs
 
--- src/shades.rt:44:17
+-- src/shades.rt:49:17
 mul-p : tie.Need-mul-p Inv-loop μ-loop
 mul-p c = search needs
 
--- src/shades.rt:45:17
+-- src/shades.rt:50:17
 add-q : tie.Need-add-q Inv-loop μ-loop
 add-q c = search needs
 
--- src/shades.rt:46:18
+-- src/shades.rt:51:18
 cast-out : tie.Need-cast-out Inv-loop μ-loop
 cast-out c = search needs
 
--- src/shades.rt:46:9
+-- src/shades.rt:51:9
 slice-write-out : tie.Need-slice-write-out Inv-loop μ-loop
 slice-write-out c = search needs
 
--- src/shades.rt:47:18
+-- src/shades.rt:52:18
 cast-out-2 : tie.Need-cast-out-2 Inv-loop μ-loop
 cast-out-2 c = search needs
 
--- src/shades.rt:47:9
+-- src/shades.rt:52:9
 slice-write-out-2 : tie.Need-slice-write-out-2 Inv-loop μ-loop
 slice-write-out-2 c = let i = c .before .before .before .loop .inv in let x = i .2 in let y = i .3 in simp length-set (omega arith)
 
--- src/shades.rt:48:9
+-- src/shades.rt:53:9
 add-k : tie.Need-add-k Inv-loop μ-loop
 add-k c = search needs
 
--- src/shades.rt:42:5
+-- src/shades.rt:47:5
 loop-less : tie.Need-loop-less Inv-loop μ-loop
 loop-less c = omega arith
 
--- src/shades.rt:42:5
+-- src/shades.rt:47:5
 loop-again : tie.Need-loop-again Inv-loop μ-loop
 unfolding byteOf
 loop-again c =
     let l = c .before .before .before in
-    let a = l .before .before .args in
+    let a = l .before .before .before .before .args in
     let i = l .loop .inv in
     let k = l .loop .k in
     let x = i .2 in
@@ -104,17 +139,19 @@ loop-again c =
       i .3,
       i .4,
       i .5,
+      i .6,
+      i .7,
     )
 
--- src/shades.rt:37:1
+-- src/shades.rt:40:1
 same-length : tie.Need-same-length Inv-loop μ-loop
 same-length c = c .before .loop .inv .2
 
--- src/shades.rt:37:1
+-- src/shades.rt:40:1
 returns : tie.Need-returns Inv-loop μ-loop
 returns c =
     let l = c .before in
-    let a = l .before .before .args in
+    let a = l .before .before .before .before .args in
     let i = l .loop .inv in
     let e : l .loop .k ≡ a .n = omega arith in
     i .1 ∙ ap (λ n. grid n 2 (bytes (a .w) (now (a .pixels))) ++ drop (n * 2) (now (a .out))) e
@@ -125,6 +162,11 @@ put-spec =
     (tie.spec
     Inv-loop
     μ-loop
+    sub-power
+    power-requires
+    sub-floor
+    cast-floor
+    excess-requires
     loop-holds
     mul-shade
     shared-slice-copy-out-shade

@@ -1,76 +1,36 @@
+use mathlib.Core.Path.{sym}
+use native.Mathlib.Nat.{le-trans}
 use lib.Dec.{le→leb}
-use Rattle.arith.proofs.Alls.{up-to}
-use borrow.Author.Tests.{lt-leb}
-use mathlib.Core.Path.{sym, _≡_, _∙_, ap}
-use Rattle.arith.proofs.Firsts.{first-at, first-none}
-use native.Mathlib.Nat.{not-suc-le-zero}
-use native.Mathlib.Omega.{arith}
-use Rattle.rule.specs.Questions.{atMost}
-use lib.Dec.{T}
 use lib.ListN.{length, getD}
-use Prim.Native.Nat.{ℕ, _-_, _≤_, _<_}
+use denote.Ref.{now}
+use Rattle.arith.proofs.Firsts.{first-none}
+use Rattle.rule.specs.Questions.{atMost}
 use borrow.Author.Needs.{needs}
 use Rattle.rule.proofs.above.first_above.Statement.{statement}
 use Rattle.rule.proofs.above.first_above.Tie as tie
 use Rattle.rule.proofs.above.first_above.Reads as reads
 use Rattle.rule.proofs.above.first_above.Lts as lts
+use Rattle.rule.proofs.above.largest.Reads as largest-reads
+use Rattle.rule.proofs.above.search_above.Reads as search-above-reads
 
-abbrev Inv-loop : tie.InvT-loop
-Inv-loop samples limit k₀ k = (k ≤ length samples) × ((j : ℕ) → j < k → T (atMost limit samples j))
+-- src/above.rt:45:8
+largest-requires : tie.Need-largest-requires
+largest-requires c κs = search needs
 
-abbrev μ-loop : tie.MeasureT-loop
-μ-loop samples limit k₀ k = length samples - k
+-- src/above.rt:46:9
+returns : tie.Need-returns
+returns c =
+    let a = c .before .before .before .args in
+    let xs = now (a .samples) in
+    sym (first-none (length xs) (atMost (a .limit) xs) (λ j l. le→leb (getD xs j 0) (a .limit) (le-trans (c .before .largest .ensures j l) (c .if1 .taken))))
 
--- src/above.rt:12:5
-loop-holds : tie.Need-loop-holds Inv-loop μ-loop
-loop-holds c = (search needs, λ j l. absurd (not-suc-le-zero l))
+-- src/above.rt:48:5
+search-above-requires : tie.Need-search-above-requires
+search-above-requires c κs = search needs
 
--- src/above.rt:13:12
-mul-if1 : tie.Need-mul-if1 Inv-loop μ-loop
-mul-if1 c = search needs
-
--- src/above.rt:13:12
-shared-slice-read-if1 : tie.Need-shared-slice-read-if1 Inv-loop μ-loop
-shared-slice-read-if1 c = search needs
-
--- src/above.rt:14:13
-returns : tie.Need-returns Inv-loop μ-loop
-returns c = let s = c .before .before .before in
-    let a = s .before .args in
-    sym (first-at _ (atMost (a .limit) (a .samples .now)) (s .loop .k) (search needs) (s .loop .inv .1) (lt-leb _ _ (c .if1 .taken)))
-
--- src/above.rt:16:9
-add-k : tie.Need-add-k Inv-loop μ-loop
-add-k c = search needs
-
--- src/above.rt:12:5
-loop-less : tie.Need-loop-less Inv-loop μ-loop
-loop-less c = search needs
-
--- src/above.rt:12:5
-loop-again : tie.Need-loop-again Inv-loop μ-loop
-loop-again c = let s = c .before .before .before in
-    let a = s .before .args in
-    (search needs, up-to {P = λ j. T (atMost (a .limit) (a .samples .now) j)} (s .loop .k) (s .loop .inv .1) (le→leb (getD (a .samples .now) (s .loop .k) 0) (a .limit) (search needs)))
-
--- src/above.rt:8:1
-returns-2 : tie.Need-returns-2 Inv-loop μ-loop
-returns-2 c = let s = c .before in
-    let f = atMost (s .before .args .limit) (s .before .args .samples .now) in
-    let e : s .loop .k ≡ length (s .before .args .samples .now) = omega arith in
-    e ∙ sym (first-none (length (s .before .args .samples .now)) f (λ j l. s .loop .inv .1 j (omega arith)))
+-- src/above.rt:42:1
+returns-2 : tie.Need-returns-2
+returns-2 c = search needs
 
 pub first-above-spec : {M : Type 1} → statement M
-first-above-spec =
-    tie.close
-    (tie.spec
-    Inv-loop
-    μ-loop
-    loop-holds
-    mul-if1
-    shared-slice-read-if1
-    returns
-    add-k
-    loop-less
-    loop-again
-    returns-2)
+first-above-spec = tie.close (tie.spec largest-requires returns search-above-requires returns-2)
