@@ -1,5 +1,6 @@
 // What is read: the table file, and the header of the scan.
-ghost use Prim.Native.Nat.{_<_};
+ghost use mathlib.Core.Path.{_≡_};
+ghost use Prim.Native.Nat.{_+_, _-_, _≤_, _<_};
 ghost use lib.ListN.{length};
 ghost use Rattle.io.specs.Counts.{Counts};
 use crate::faults;
@@ -75,4 +76,45 @@ pub fn opening() -> Opening {
         }
     }
     Opening::More
+}
+
+// Reads behind the first `end` bytes of a store, up to place `most`. Answers how many bytes came, 0 at the end of the input.
+fn behind(store: &mut [u8], end: usize, most: usize) -> usize
+    requires { ⌜ (end ≤ most) × (most ≤ length (now store)) ⌝ }
+    ensures { λ n. ⌜ end + n ≤ most ⌝ }
+{
+    let rest: &mut [u8] = &mut store[end..most];
+    io::count(libc::read(STDIN_FILENO, rest), rest)
+}
+
+// Reads behind the first `have` bytes of a store, up to place `most`, until there are `need` of them or the input ends.
+// Answers how many there are.
+pub fn gather(store: &mut [u8], have: usize, need: usize, most: usize) -> usize
+    requires { ⌜ (have ≤ most) × (most ≤ length (now store)) ⌝ }
+    ensures { λ n. ⌜ n ≤ most ⌝ }
+{
+    let mut end = have;
+    while end < need {
+        let n = behind(store, end, most);
+        if n == 0 {
+            return end;
+        }
+        end += n;
+    }
+    end
+}
+
+// Moves the bytes from place `from` to `end` to the start of a store. Answers how many they are.
+pub fn forward(store: &mut [u8], from: usize, end: usize) -> usize
+    requires { ⌜ (from ≤ end) × (end ≤ length (now store)) ⌝ }
+    ensures { λ n. ⌜ n ≡ end - from ⌝ }
+{
+    let n = end - from;
+    let mut i = 0;
+    while i < n {
+        let j = from + i;
+        store[i] = store[j];
+        i += 1;
+    }
+    n
 }

@@ -1,12 +1,12 @@
 // stripfilter TABLE < scan.pgm > filtered.pgm: filters a scan, a binary PGM, by a table file, and writes a 16-bit PGM; with
-// --values before TABLE the pixels as decimal numbers, a line a row. A row is read, filtered and written before the next is
-// read. A fault is a line on standard error.
+// --values before TABLE the pixels as decimal numbers, a line a row. The rows that one read brings are filtered and written
+// before more is read. A fault is a line on standard error.
 mod faults;
 mod input;
 mod output;
 mod rows;
 
-ghost use Prim.Native.Nat.{_≤_};
+ghost use Prim.Native.Nat.{_≤_, _<_};
 use layout::Table;
 use layout::Verdict;
 use output::Job;
@@ -16,7 +16,7 @@ use scan::Scan;
 // Runs a scan that has been started: its header goes out, then the rows as they come, then the rows that the closing steps
 // give.
 fn run(job: Job, s: Scan, samples: &mut [u16], sums: &mut [u32])
-    requires { ⌜ job .width ≤ 1024 ⌝ }
+    requires { ⌜ (0 < job .width) × (job .width ≤ 1024) ⌝ }
 {
     if !output::begin(job) {
         return;
@@ -30,7 +30,7 @@ fn run(job: Job, s: Scan, samples: &mut [u16], sums: &mut [u32])
 
 // Starts a scan.
 fn start(t: Table, job: Job)
-    requires { ⌜ job .width ≤ 1024 ⌝ }
+    requires { ⌜ (0 < job .width) × (job .width ≤ 1024) ⌝ }
 {
     let mut samples = [0u16; 32768];
     let mut sums = [0u32; 16384];

@@ -1,5 +1,6 @@
 // What is written.
 ghost use Prim.Native.Nat.{_≤_};
+ghost use lib.ListN.{length};
 use libc::STDOUT_FILENO;
 
 // A scan to filter: its width, height and maxval, the pixel word of the table, and whether values are wanted.
@@ -39,18 +40,68 @@ fn values(pixels: &[i32]) -> bool {
     put(&text[..n])
 }
 
-// A filtered row as samples of the picture.
-fn samples(pixels: &[i32], w: u8) -> bool {
-    let mut bytes = [0u8; 2048];
-    let n = 2 * pgm::encode(pixels, w, &mut bytes);
-    put(&bytes[..n])
+// A page of the picture, which is written when it is full: how many bytes stand on it, and whether writing went well.
+pub struct Page {
+    pub used: usize,
+    pub good: bool,
 }
 
-// A filtered row.
-pub fn row(job: Job, pixels: &[i32]) -> bool {
-    if job.values {
-        values(pixels)
-    } else {
-        samples(pixels, job.w)
+// Writes what stands on a page.
+pub fn flush(page: &[u8], used: usize) -> bool
+    requires { ⌜ used ≤ length (now page) ⌝ }
+{
+    put(&page[..used])
+}
+
+// Makes room for n bytes more: writes the page where there is none.
+fn room(page: &[u8], used: usize, n: usize) -> Page
+    requires { ⌜ used ≤ length (now page) ⌝ }
+    ensures { λ p. ⌜ p .used ≤ length (now (page .entry)) ⌝ }
+{
+    if n <= page.len() - used {
+        return Page { used, good: true };
     }
+    let good = flush(page, used);
+    Page { used: 0, good }
+}
+
+// A filtered row as samples of the picture.
+fn samples(job: Job, pixels: &[i32], page: &mut [u8], used: usize) -> Page
+    requires { ⌜ (job .width ≤ 1024) × (used ≤ length (now page)) ⌝ }
+    ensures { λ p. ⌜ p .used ≤ length (now (page .entry)) ⌝ }
+{
+    let start = room(page, used, 2 * job.width);
+    let at = start.used;
+    if !start.good {
+        return start;
+    }
+    let end = page.len();
+    let n = 2 * pgm::encode(pixels, job.w, &mut page[at..end]);
+    Page {
+        used: at + n,
+        good: true,
+    }
+}
+
+// A filtered row: onto the page, or as a line of numbers, which is written at once.
+pub fn row(job: Job, pixels: &[i32], page: &mut [u8], used: usize) -> Page
+    requires { ⌜ (job .width ≤ 1024) × (used ≤ length (now page)) ⌝ }
+    ensures { λ p. ⌜ p .used ≤ length (now (page .entry)) ⌝ }
+{
+    if job.values {
+        return Page {
+            used,
+            good: values(pixels),
+        };
+    }
+    samples(job, pixels, page, used)
+}
+
+// A filtered row, written at once.
+pub fn row_alone(job: Job, pixels: &[i32]) -> bool
+    requires { ⌜ job .width ≤ 1024 ⌝ }
+{
+    let mut page = [0u8; 2048];
+    let p = row(job, pixels, &mut page, 0);
+    if p.good { flush(&page, p.used) } else { false }
 }
