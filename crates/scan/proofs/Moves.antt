@@ -16,7 +16,7 @@ use Rattle.arith.proofs.Bools.{bool-eq}
 use Rattle.arith.proofs.Sums.{sum-split}
 use Rattle.arith.specs.Sum.{sum}
 use Rattle.scan.proofs.Places.{part, part-at}
-use Rattle.scan.specs.Passes.{movable, placed}
+use Rattle.scan.specs.Passes.{movable, stepped, placed}
 
 -- ---- the two steps, which wrap at 2^32
 
@@ -40,14 +40,29 @@ module _
       let y = leb→le (stored - off + on) bound (h .1) in
       yes-and (leb less bound) (leb s bound) (le→leb less bound (omega arith)) (le→leb s bound (omega arith)))
 
-  pub step-sum : T (movable stored off on bound) → s ≡ stored - off + on
-  step-sum t =
-      let p = div-add-mod (less + off) 4294967296 in
-      let q = div-add-mod (less + on) 4294967296 in
-      let h = and-yes (leb off stored) (leb (stored - off + on) bound) t in
-      let x = leb→le off stored (h .0) in
-      let y = leb→le (stored - off + on) bound (h .1) in
-      omega arith
+-- both steps as they are taken
+pub step-sum : (stored off on less s : ℕ) → (less + off) % 4294967296 ≡ stored → s ≡ (less + on) % 4294967296 → s ≡ stepped stored off on
+step-sum stored off on less s f g =
+    let p = div-add-mod (less + off) 4294967296 in
+    let q = div-add-mod (less + on) 4294967296 in
+    let r = div-add-mod (stored + 4294967295 * off + on) 4294967296 in
+    omega arith
+
+-- a sum that may move does not wrap
+pub step-exact : (stored off on bound : ℕ) → bound ≤ 131071 → T (movable stored off on bound) → stepped stored off on ≡ stored - off + on
+step-exact stored off on bound e t =
+    let h = and-yes (leb off stored) (leb (stored - off + on) bound) t in
+    let x = leb→le off stored (h .0) in
+    let y = leb→le (stored - off + on) bound (h .1) in
+    let r = div-add-mod (stored + 4294967295 * off + on) 4294967296 in
+    omega arith
+
+-- both steps with leaving and entering exchanged take both back
+pub step-back : (stored off on : ℕ) → stored < 4294967296 → stepped (stepped stored off on) on off ≡ stored
+step-back stored off on h =
+    let p = div-add-mod (stored + 4294967295 * off + on) 4294967296 in
+    let q = div-add-mod (stepped stored off on + 4294967295 * on + off) 4294967296 in
+    omega arith
 
 -- neither of two fails exactly when both hold
 pub none-past : (a b : Bool) → eqb (cond a 0 1 + cond b 0 1) 0 ≡ (a && b)

@@ -4,13 +4,13 @@ use Prim.Native.Nat.{ℕ, zero, suc, _+_, _-_, _*_, _/_, _^_, _≤_, _<_, zero-l
 use native.Mathlib.Omega.{arith}
 use native.Mathlib.Numerals.{add-one}
 use native.Mathlib.Nat.{zero-div, le-trans, le-of-eq, mul-le-mul}
-use mathlib.Core.Path.{_≡_, refl, sym, ap, _∙_, subst}
+use mathlib.Core.Path.{_≡_, refl, sym, ap, _∙_}
 use mathlib.Core.Bool.{Bool, true, false, cond, not}
 use mathlib.Core.List.{List, _++_}
 use lib.Dec.{T, ltb, ltb→lt, nltb→le}
 use lib.IntN.{ℤ, pos, negsuc, _*ℤ_}
 use lib.ListN.{length, getD, take, drop, replicate, length-replicate, List·getD-append}
-use lib.Pow.{shr-mono}
+use lib.Pow.{pow-mono, shr-mono}
 use lib.Seq.{getD-append-add, getD-drop, getD-take, length-take-le}
 use borrow.Rule.Slice.PartMut.{putMid, postOf}
 use Rattle.arith.specs.All.{all}
@@ -22,7 +22,7 @@ use Rattle.arith.specs.Twos.{fitsSigned}
 use Rattle.arith.proofs.Ints.{diff-add, diff-parts, diff-scale, diff-shift, sumℤ-suc}
 use Rattle.arith.proofs.Passes.{pass-done, pass-length}
 use Rattle.arith.proofs.Sums.{sum-cong}
-use Rattle.arith.proofs.Tabs.{length-tab, getD-tab}
+use Rattle.arith.proofs.Tabs.{length-tab, getD-tab, tab-cong}
 use Rattle.arith.proofs.Words.{fits-mag}
 use Rattle.layout.specs.Contents.{rect}
 use Rattle.layout.specs.Measure.{colsOf}
@@ -30,9 +30,8 @@ use Rattle.limits.specs.Limits.{acceptable}
 use Rattle.limits.proofs.Granted.{granted}
 use Rattle.rule.specs.Sums.{covered}
 use Rattle.scan.specs.Arrivals.{Arrival, leaving, entering, stored, newSum, sumMost, sumGood, lineAt, windowAt, scaledAt}
-use Rattle.scan.specs.Passes.{movable, lineFrom, lineSum, weighed, Weighed, Blank, Dark}
-use Rattle.scan.proofs.Carries.{good-at}
-use Rattle.scan.proofs.Lines.{line-sum, window-le}
+use Rattle.scan.specs.Passes.{movable, stepped, movedSum, lineFrom, lineSum, weighed, withPart, Weighed, Blank, Dark}
+use Rattle.scan.proofs.Taken.{line-most, scaled-most}
 
 -- ---- the line
 
@@ -119,16 +118,12 @@ module _
   unfolding newSum
   moved-new = rw (es, eo, en)
 
+  pub moved-sum : stepped s off on ≡ movedSum v k c
+  unfolding movedSum
+  moved-sum = rw (es, eo, en)
+
 -- where question 19 holds, each place is within the bound
 module _ (v : Arrival) (k : ℕ) (good : T (all (v .width) (sumGood v k))) where
-  column-le : (j : ℕ) → lineAt v k (pos j) ≤ sumMost (v .table) (rect (v .table) k)
-  unfolding lineAt
-  column-le j = go (ltb j (v .width)) (ltb→lt j (v .width))
-    where
-      go : (c : Bool) → (T c → j < v .width) → cond c (newSum v k j) 0 ≤ sumMost (v .table) (rect (v .table) k)
-      go true y = good-at v k good j (y tt) .1
-      go false y = zero-le
-
   pub in-line : {line : List ℕ} → Lined v k line → (i : ℕ) → getD line i 0 ≤ sumMost (v .table) (rect (v .table) k) / 2 ^ v .table .q2
   unfolding lineFrom
   in-line {line} l i = go (ltb i 16) (ltb→lt i 16) (nltb→le i 16)
@@ -139,7 +134,7 @@ module _ (v : Arrival) (k : ℕ) (good : T (all (v .width) (sumGood v k))) where
           let h = n tt in
           let e : i ≡ 16 + (i - 16) = omega arith in
           let p = ap (λ m. getD line m 0) e ∙ l .column (pos (i - 16)) in
-          let m = shr-mono (v .table .q2) (column-le (i - 16)) in
+          let m = shr-mono (v .table .q2) (line-most v k good (pos (i - 16))) in
           le-trans (le-of-eq p) m
 
 -- the windows of the line are those of the rule
@@ -149,6 +144,11 @@ line-scaled v k {line} l c =
     ap (λ s. s / 2 ^ v .table .q3 * 2 ^ (v .table .q1 + v .table .q2 + v .table .q3))
     (sum-cong (colsOf (rect (v .table) k)) (λ j h. l .column (covered (pos c) (rect (v .table) k .trailcol) j)))
 
+-- a pass that adds them adds the rectangle's part
+pub line-part : (v : Arrival) (k : ℕ) {line : List ℕ} (acc : List ℕ) → Lined v k line
+    → tab (v .width) (weighed (v .table) (rect (v .table) k) line acc) ≡ tab (v .width) (withPart v k acc)
+line-part v k acc l = tab-cong (v .width) (λ c h. rw (line-scaled v k l c) refl)
+
 -- ---- the values
 
 parts-le : (z : ℤ) → T (fitsSigned 16 z) → (posPart z ≤ 32768) × (negPart z ≤ 32768)
@@ -156,15 +156,15 @@ parts-le (pos n) t = let m = fits-mag 16 (pos n) t in (omega arith, zero-le)
 parts-le (negsuc n) t = let m = fits-mag 16 (negsuc n) t in (zero-le, omega arith)
 
 -- the scaled sum that a rectangle adds is below 2^22
-scaled-lt :
-    (v : Arrival) (k : ℕ) → acceptable (v .table) ≡ true → k < v .table .count → T (all (v .width) (sumGood v k)) → {line : List ℕ} → Lined v k line
-    → (c : ℕ) → lineSum (v .table) (rect (v .table) k) line c < 4194304
-scaled-lt v k e h good {line} l c =
+scaled-lt : (v : Arrival) (k : ℕ) → acceptable (v .table) ≡ true → k < v .table .count → T (all (v .width) (sumGood v k)) → (c : ℕ) → scaledAt v k c < 4194304
+scaled-lt v k e h good c =
     let g = granted (v .table) e in
     let b = g .bounds k h in
-    let d = diff-shift {q = b .col .trail + 112} {m = 128} (b .col .trail-is) (omega arith) in
-    subst (λ s. s < 4194304) (line-sum (v .table) (rect (v .table) k) line (b .col .trail + 112) c (l .before) d (omega arith))
-    (window-le (v .table) (rect (v .table) k) line (b .col .trail + 112 - 111) c (g .q1-less) (g .bits-most) (b .rows-most) (b .cols-most) (in-line v k good l))
+    let q : v .table .q1 ≤ v .table .b = let l = g .q1-less in omega arith in
+    let p : 2 ^ v .table .b - 1 ≤ 4095 = let m = pow-mono (g .bits-most) in omega arith in
+    let m = mul-le-mul (mul-le-mul (b .rows-most) (b .cols-most)) p in
+    let s = scaled-most v k c q good in
+    omega arith
 
 few-below : (v : Arrival) (k : ℕ) → acceptable (v .table) ≡ true → k < v .table .count → k ≤ 15
 few-below v k e h = let f = granted (v .table) e .few in omega arith
@@ -182,18 +182,18 @@ weighed-room v k e h w c p =
 -- the values with the part of rectangle k
 module _
     (v : Arrival) (k : ℕ) (e : acceptable (v .table) ≡ true) (h : k < v .table .count) (good : T (all (v .width) (sumGood v k)))
-    {line acc : List ℕ} (l : Lined v k line) (w : Weighed v k acc) where
+    {acc : List ℕ} (w : Weighed v k acc) where
   abbrev next : ℕ → ℕ
-  next c = weighed (v .table) (rect (v .table) k) line acc c
+  next c = withPart v k acc c
 
-  above-le : (c : ℕ) → posPart (rect (v .table) k .weight) * lineSum (v .table) (rect (v .table) k) line c ≤ 137438953472
+  above-le : (c : ℕ) → posPart (rect (v .table) k .weight) * scaledAt v k c ≤ 137438953472
   above-le c =
-      let s : lineSum (v .table) (rect (v .table) k) line c ≤ 4194304 = let s = scaled-lt v k e h good l c in omega arith in
+      let s : scaledAt v k c ≤ 4194304 = let s = scaled-lt v k e h good c in omega arith in
       mul-le-mul (parts-le _ (granted (v .table) e .weight k h) .0) s
 
-  below-le : (c : ℕ) → negPart (rect (v .table) k .weight) * lineSum (v .table) (rect (v .table) k) line c ≤ 137438953472
+  below-le : (c : ℕ) → negPart (rect (v .table) k .weight) * scaledAt v k c ≤ 137438953472
   below-le c =
-      let s : lineSum (v .table) (rect (v .table) k) line c ≤ 4194304 = let s = scaled-lt v k e h good l c in omega arith in
+      let s : scaledAt v k c ≤ 4194304 = let s = scaled-lt v k e h good c in omega arith in
       mul-le-mul (parts-le _ (granted (v .table) e .weight k h) .1) s
 
   next-value : (c : ℕ) → c < v .width → Diff (sumℤ (k + 1) (λ i. rect (v .table) i .weight *ℤ pos (scaledAt v i c))) (next c) 2199023255552
@@ -201,8 +201,8 @@ module _
       let o = w .low c p in
       let b = below-le c in
       let f = few-below v k e h in
-      rw (add-one k, sumℤ-suc k, ← line-scaled v k l c)
-      (diff-shift (diff-add (w .value c p) (diff-scale (lineSum (v .table) (rect (v .table) k) line c) (diff-parts (rect (v .table) k .weight)))) (omega arith))
+      rw (add-one k, sumℤ-suc k)
+      (diff-shift (diff-add (w .value c p) (diff-scale (scaledAt v k c) (diff-parts (rect (v .table) k .weight)))) (omega arith))
 
   next-low : (c : ℕ) → c < v .width → 2199023255552 ≤ next c + (k + 1) * 137438953472
   next-low c p = let o = w .low c p in let b = below-le c in let f = few-below v k e h in omega arith

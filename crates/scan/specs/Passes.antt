@@ -1,6 +1,6 @@
 -- What the engine's passes compute, each over plain lists. The contracts of the four calls use none of this.
 -- Assumes nothing.
-use Prim.Native.Nat.{ℕ, _+_, _-_, _*_, _/_, _^_, _≤_, _<_}
+use Prim.Native.Nat.{ℕ, _+_, _-_, _*_, _/_, _%_, _^_, _≤_, _<_}
 use mathlib.Core.Path.{_≡_}
 use mathlib.Core.Bool.{Bool, _&&_}
 use mathlib.Core.List.{List}
@@ -15,11 +15,22 @@ use Rattle.layout.specs.declared.Table.{Table}
 use Rattle.layout.specs.Contents.{rect}
 use Rattle.layout.specs.Measure.{colsOf}
 use Rattle.rule.specs.Sums.{covered}
-use Rattle.scan.specs.Arrivals.{Arrival, scaledAt}
+use Rattle.scan.specs.Arrivals.{Arrival, leaving, entering, stored, scaledAt}
 
 -- a stored sum may move: the leaving sample is in it, and the result is within the bound
 abbrev pub movable : (stored off on bound : ℕ) → Bool
 movable stored off on bound = leb off stored && leb (stored - off + on) bound
+
+-- both steps of a stored sum, wrapped at 2^32, where 2^32 - 1 times a number takes it off
+abbrev pub stepped : (stored off on : ℕ) → ℕ
+stepped stored off on = (stored + 4294967295 * off + on) % 4294967296
+
+-- rectangle k's stored sum for column c with both steps, and with both taken back
+unfoldable pub movedSum : Arrival → (k c : ℕ) → ℕ
+movedSum v k c = stepped (stored v k c) (leaving v k c) (entering v k c)
+
+unfoldable pub backSum : Arrival → (k c : ℕ) → ℕ
+backSum v k c = stepped (stored v k c) (entering v k c) (leaving v k c)
 
 -- column j of a line that begins with 16 zeros
 unfoldable pub lineFrom : List ℕ → (j : ℤ) → ℕ
@@ -48,6 +59,11 @@ added acc low high q3 q above below c =
 abbrev pub weighed : Table → Rect → (line acc : List ℕ) → ℕ → ℕ
 weighed t d line acc c =
     getD acc c 0 + posPart (d .weight) * lineSum t d line c - negPart (d .weight) * lineSum t d line c
+
+-- the same by rectangle k at an arrival
+abbrev pub withPart : Arrival → (k : ℕ) → (acc : List ℕ) → ℕ → ℕ
+withPart v k acc c =
+    getD acc c 0 + posPart (rect (v .table) k .weight) * scaledAt v k c - negPart (rect (v .table) k .weight) * scaledAt v k c
 
 -- what arrives with a table, in the code's terms
 abbrev pub arriving : Table → (width number : ℕ) → (row samples sums : List ℕ) → Arrival

@@ -1,4 +1,5 @@
-// The arrival of a row, or of a closing row of zeros: first everything is read and asked, then written.
+// The arrival of a row, or of a closing row of zeros: the column sums are moved and asked rectangle by rectangle; where a
+// rectangle fails, they are taken back.
 ghost use mathlib.Core.Path.{_≡_};
 ghost use mathlib.Core.Bool.{true};
 ghost use mathlib.Core.List.{_++_};
@@ -9,17 +10,17 @@ ghost use lib.ListN.{length, getD, drop};
 ghost use borrow.Rule.Slice.PartMut.{putMid};
 ghost use Rattle.arith.specs.All.{all};
 ghost use Rattle.arith.specs.First.{firstNot};
-ghost use Rattle.arith.specs.Tab.{tab};
+ghost use Rattle.arith.specs.Tab.{tab, grid};
 ghost use Rattle.arith.specs.Floor.{floorDiv};
 ghost use Rattle.arith.specs.Twos.{fitsSigned};
 ghost use Rattle.layout.specs.Contents.{rect};
 ghost use Rattle.layout.specs.Measure.{delayOf};
 ghost use Rattle.limits.specs.Limits.{acceptable};
-ghost use Rattle.scan.specs.Arrivals.{sumMost, sumGood, newSum, sumsAfter};
-ghost use Rattle.scan.specs.Passes.{arriving, weighed, Weighed, Room, Blank, Dark};
+ghost use Rattle.scan.specs.Arrivals.{sumMost, sumGood, sumsAfter};
+ghost use Rattle.scan.specs.Passes.{arriving, movedSum, backSum, weighed, withPart, Weighed, Room, Blank, Dark};
 use crate::kept::reached;
-use crate::sums::carry;
 use crate::sums::renew;
+use crate::sums::take_back;
 use crate::window::add_window;
 use crate::window::run_up;
 use arith::biased_byte;
@@ -40,7 +41,7 @@ fn sum_most(t: Table, k: usize) -> u32
     rows(d) * (power(t.b - t.q1) as u32 - 1)
 }
 
-// One rectangle: question 19 on its column sums, and its part of the values.
+// One rectangle: its column sums moved, question 19 on them, and its part of the values.
 fn rectangle<'a>(
     acc: &mut [u64],
     line: &mut [u32],
@@ -52,15 +53,16 @@ fn rectangle<'a>(
     arrival: usize,
     delay: usize,
     samples: &'a [u16],
-    sums: &[u32],
+    sums: &mut [u32],
     row: &'a [u16],
 ) -> bool
     requires { ⌜ (acceptable t ≡ true) × (delay ≡ delayOf t) × (k < t .count) ⌝ }
     requires { ⌜ Room t width arrival (length (now row)) (length (now samples)) (length (now sums)) ⌝ }
-    requires { ⌜ Weighed (arriving t width arrival (now row) (now samples) (now sums)) k (now acc) ⌝ }
+    requires { ⌜ (width ≤ length (now acc)) × ((c : ℕ) → c < width → (137438953472 ≤ getD (now acc) c 0) × (getD (now acc) c 0 ≤ 4398046511104)) ⌝ }
     requires { ⌜ Blank width (now line) × (length (now runs) ≡ 1056) × Dark (now zeros) ⌝ }
     ensures { λ g. ⌜ g ≡ all width (sumGood (arriving t width arrival (now (row .entry)) (now (samples .entry)) (now (sums .entry))) k) ⌝ }
-    ensures { λ g. ⌜ (g ≡ true → Weighed (arriving t width arrival (now (row .entry)) (now (samples .entry)) (now (sums .entry))) (k + 1) (now (acc .exit))) ⌝ }
+    ensures { λ g. ⌜ (g ≡ true → now (acc .exit) ≡ tab width (withPart (arriving t width arrival (now (row .entry)) (now (samples .entry)) (now (sums .entry))) k (now (acc .entry))) ++ drop width (now (acc .entry))) ⌝ }
+    ensures { λ _. ⌜ now (sums .exit) ≡ putMid (k * width) width (now (sums .entry)) (tab width (movedSum (arriving t width arrival (now (row .entry)) (now (samples .entry)) (now (sums .entry))) k)) ⌝ }
     ensures { λ _. ⌜ Blank width (now (line .exit)) ⌝ }
 {
     let d = t.rects[k];
@@ -70,7 +72,7 @@ fn rectangle<'a>(
     let at = k * width;
     if !renew(
         &mut line[16..16 + width],
-        &sums[at..at + width],
+        &mut sums[at..at + width],
         off,
         on,
         width,
@@ -110,7 +112,8 @@ fn weigh(acc: &mut [u64], runs: &mut [u32], line: &[u32], t: Table, k: usize, wi
     );
 }
 
-// The first rectangle that fails question 19, or their number; the values are then complete.
+// The first rectangle that fails question 19, the sums moved up to it, or the number of rectangles; then all sums are
+// moved and the values complete.
 pub fn values<'a>(
     acc: &mut [u64],
     zeros: &'a [u16],
@@ -119,7 +122,7 @@ pub fn values<'a>(
     arrival: usize,
     delay: usize,
     samples: &'a [u16],
-    sums: &[u32],
+    sums: &mut [u32],
     row: &'a [u16],
 ) -> usize
     requires { ⌜ (acceptable t ≡ true) × (delay ≡ delayOf t) ⌝ }
@@ -128,6 +131,8 @@ pub fn values<'a>(
     requires { ⌜ Dark (now zeros) ⌝ }
     ensures { λ f. ⌜ f ≡ firstNot (t .count) (λ k. all width (sumGood (arriving t width arrival (now (row .entry)) (now (samples .entry)) (now (sums .entry))) k)) ⌝ }
     ensures { λ f. ⌜ (t .count ≤ f → Weighed (arriving t width arrival (now (row .entry)) (now (samples .entry)) (now (sums .entry))) (t .count) (now (acc .exit))) ⌝ }
+    ensures { λ f. ⌜ (t .count ≤ f → now (sums .exit) ≡ sumsAfter (arriving t width arrival (now (row .entry)) (now (samples .entry)) (now (sums .entry)))) ⌝ }
+    ensures { λ f. ⌜ (f < t .count → now (sums .exit) ≡ grid (f + 1) width (movedSum (arriving t width arrival (now (row .entry)) (now (samples .entry)) (now (sums .entry)))) ++ drop ((f + 1) * width) (now (sums .entry))) ⌝ }
 {
     let count = t.count;
     let mut line = [0u32; 1056];
@@ -155,8 +160,8 @@ pub fn values<'a>(
     k
 }
 
-// Carries the sums of rectangle k.
-fn carry_rectangle<'a>(
+// Takes back the sums of rectangle k.
+fn take_back_rectangle<'a>(
     sums: &mut [u32],
     zeros: &'a [u16],
     t: Table,
@@ -169,36 +174,34 @@ fn carry_rectangle<'a>(
 )
     requires { ⌜ (acceptable t ≡ true) × (delay ≡ delayOf t) × (k < t .count) × Dark (now zeros) ⌝ }
     requires { ⌜ Room t width arrival (length (now row)) (length (now samples)) (length (now sums)) ⌝ }
-    requires { ⌜ T (all width (sumGood (arriving t width arrival (now row) (now samples) (now sums)) k)) ⌝ }
-    ensures { λ _. ⌜ now (sums .exit) ≡ putMid (k * width) width (now (sums .entry)) (tab width (newSum (arriving t width arrival (now (row .entry)) (now (samples .entry)) (now (sums .entry))) k)) ⌝ }
+    ensures { λ _. ⌜ now (sums .exit) ≡ putMid (k * width) width (now (sums .entry)) (tab width (backSum (arriving t width arrival (now (row .entry)) (now (samples .entry)) (now (sums .entry))) k)) ⌝ }
 {
     let d = t.rects[k];
     let off = reached(samples, row, zeros, width, arrival, delay, d.trailrow);
     let on = reached(samples, row, zeros, width, arrival, delay, d.leadrow);
     let at = k * width;
-    carry(&mut sums[at..at + width], off, on, width, t.q1);
+    take_back(&mut sums[at..at + width], off, on, width, t.q1);
 }
 
-// Carries the sums of every rectangle.
-pub fn carry_all<'a>(
+// Takes back the sums of the first n rectangles.
+pub fn take_back_first<'a>(
     sums: &mut [u32],
     zeros: &'a [u16],
     t: Table,
+    n: usize,
     width: usize,
     arrival: usize,
     delay: usize,
     samples: &'a [u16],
     row: &'a [u16],
 )
-    requires { ⌜ (acceptable t ≡ true) × (delay ≡ delayOf t) × Dark (now zeros) ⌝ }
+    requires { ⌜ (acceptable t ≡ true) × (delay ≡ delayOf t) × (n ≤ t .count) × Dark (now zeros) ⌝ }
     requires { ⌜ Room t width arrival (length (now row)) (length (now samples)) (length (now sums)) ⌝ }
-    requires { ⌜ T (all (t .count) (λ k. all width (sumGood (arriving t width arrival (now row) (now samples) (now sums)) k))) ⌝ }
-    ensures { λ _. ⌜ now (sums .exit) ≡ sumsAfter (arriving t width arrival (now (row .entry)) (now (samples .entry)) (now (sums .entry))) ⌝ }
+    ensures { λ _. ⌜ now (sums .exit) ≡ grid n width (backSum (arriving t width arrival (now (row .entry)) (now (samples .entry)) (now (sums .entry)))) ++ drop (n * width) (now (sums .entry)) ⌝ }
 {
-    let count = t.count;
     let mut k = 0;
-    while k < count {
-        carry_rectangle(sums, zeros, t, k, width, arrival, delay, samples, row);
+    while k < n {
+        take_back_rectangle(sums, zeros, t, k, width, arrival, delay, samples, row);
         k += 1;
     }
 }

@@ -1,5 +1,5 @@
 // The scan engine: a scan row by row, with the column sums carried along. The state is a value; samples, sums and the
-// filtered row stand in stores that are lent to each call. Everything is asked before anything is written.
+// filtered row stand in stores that are lent to each call. Where a call is refused, each store is what it was.
 mod arrive;
 mod kept;
 mod rows;

@@ -11,7 +11,7 @@ ghost use Rattle.scan.specs.Passes.{Room};
 use crate::Answer;
 use crate::Moved;
 use crate::Scan;
-use crate::arrive::carry_all;
+use crate::arrive::take_back_first;
 use crate::arrive::values;
 use crate::arrive::write_row;
 use crate::kept::keep_row;
@@ -46,9 +46,9 @@ pub fn arrive(
     let zeros = [0u16; 1024];
     let failed = values(&mut acc, &zeros, t, width, arrival, d, samples, sums, row);
     if failed < t.count {
+        take_back_first(sums, &zeros, t, failed + 1, width, arrival, d, samples, row);
         return Verdict::Refused(19, failed as u32);
     }
-    carry_all(sums, &zeros, t, width, arrival, d, samples, row);
     let p = (arrival % 32) * width;
     keep_row(&mut samples[p..p + width], row, width);
     if d <= arrival {

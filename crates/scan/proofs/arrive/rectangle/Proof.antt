@@ -1,12 +1,13 @@
 use Rattle.scan.proofs.Answered.{yes, no}
-use Rattle.scan.proofs.Rectangles.{Lined, lined, blank-put, movable-good, moved-new, in-line, weighed-room, weighed-next}
+use Rattle.scan.proofs.Rectangles.{Lined, lined, blank-put, movable-good, moved-new, moved-sum, in-line, line-part}
 use Rattle.scan.proofs.Carries.{pass-whole}
 use Rattle.scan.proofs.Places.{part, part-at, part-length}
 use Rattle.scan.specs.Arrivals.{leaving, entering, stored, sumGood}
-use Rattle.scan.specs.Passes.{Blank}
+use Rattle.scan.specs.Passes.{movedSum, Blank}
 use Rattle.layout.specs.Contents.{rect}
 use Rattle.arith.proofs.Alls.{all-cong}
 use Rattle.arith.proofs.Tabs.{length-tab}
+use Rattle.arith.specs.Tab.{tab}
 use Rattle.arith.specs.All.{all}
 use borrow.Rule.Slice.PartMut.{putMid, mid-len, same-len-mid}
 use mir.Val.{SFits}
@@ -14,9 +15,9 @@ use mir.Syntax.{w8}
 use mir.Facts.{toZ-ofZ}
 use lib.Dec.{T}
 use lib.ListN.{getD, take, drop}
-use mathlib.Core.List.{List}
-use mathlib.Core.Path.{_≡_, sym, ap, subst, _∙_}
-use native.Mathlib.Nat.{le-of-eq, le-trans}
+use mathlib.Core.List.{List, _++_}
+use mathlib.Core.Path.{_≡_, sym, ap, ap₂, subst, _∙_}
+use native.Mathlib.Nat.{le-of-eq}
 use Rattle.scan.proofs.Carries.{reach-asks, reached-at}
 use Rattle.scan.proofs.Places.{line-end, line-small}
 use Rattle.limits.proofs.Granted.{granted}
@@ -104,75 +105,84 @@ module _ (c : tie.After-renew) where
   line : T (all (s .args .width) (sumGood (arrived s) (s .args .k))) → Lined (arrived s) (s .args .k) drawn
   line good =
       lined (arrived s) (s .args .k) (now (s .args .line)) (c .renew .last .0) (s .pre .1 .1 .1 .0)
-      (c .renew .ensures .1 (subst T (sym answered) good)
+      (c .renew .ensures .1 .0 (subst T (sym answered) good)
       ∙ pass-whole (s .args .width) _ mid
       (λ n h. ap (λ s. s / 2 ^ begun asked .args .t5 .q2) (moved-new (arrived s) (s .args .k) n (sum-at asked n h) (off-at asked n h) (on-at asked n h) (asked .sum-most .ensures .0))))
 
--- question 19 holds where the test is passed
-passed : (c : tie.Else1) → let r = c .before .before .before in T (all (s r .args .width) (sumGood (arrived (s r)) (s r .args .k)))
-passed c = subst T (sym (yes (answered (c .before .before .before)) (c .if1 .left))) tt
+  moved : putMid (s .args .k * s .args .width) (s .args .k * s .args .width + s .args .width - s .args .k * s .args .width) (now (s .args .sums)) (c .renew .last .1 .0)
+      ≡ putMid (s .args .k * s .args .width) (s .args .width) (now (s .args .sums)) (tab (s .args .width) (movedSum (arrived s) (s .args .k)))
+  moved =
+      let p = s .args .k * s .args .width in
+      let n : p + s .args .width - p ≡ s .args .width = omega arith in
+      ap₂ (λ j ys. putMid p j (now (s .args .sums)) ys) n
+      (c .renew .ensures .1 .1 ∙ pass-whole (s .args .width) (sums s) (part-length p (s .args .width) (now (s .args .sums)) (ends s))
+      (λ n h. moved-sum (arrived s) (s .args .k) n (sum-at asked n h) (off-at asked n h) (on-at asked n h) (asked .sum-most .ensures .0)))
 
--- src/arrive.rt:66:13
+-- question 19 holds where the test is passed
+passed : (c : tie.Else1) → let r = c .before .before .before .before .before in T (all (s r .args .width) (sumGood (arrived (s r)) (s r .args .k)))
+passed c = subst T (sym (yes (answered (c .before .before .before .before .before)) (c .if1 .left))) tt
+
+-- src/arrive.rt:68:13
 mul-d : tie.Need-mul-d
 mul-d c = let l = few (c .before .before .before .before .before .before .before) in search (needs, l)
 
--- src/arrive.rt:66:13
+-- src/arrive.rt:68:13
 element-copy-out-d : tie.Need-element-copy-out-d
 element-copy-out-d c = few (c .before .before .before .before .before .before .before)
 
--- src/arrive.rt:67:9
+-- src/arrive.rt:69:9
 reached-requires : tie.Need-reached-requires
 reached-requires c κs = let s = c .before .before .before .before .before .before .before .before .before in reach-asks (s .args .t5) (s .pre .0 .0) (s .pre .0 .1) (s .pre .1 .0) (s .pre .1 .1 .1 .2)
 
--- src/arrive.rt:68:9
+-- src/arrive.rt:70:9
 reached-requires-2 : tie.Need-reached-requires-2
 reached-requires-2 c κs = let s = c .before .before .before .before .before .before .before .before .before .before .before in reach-asks (s .args .t5) (s .pre .0 .0) (s .pre .0 .1) (s .pre .1 .0) (s .pre .1 .1 .1 .2)
 
--- src/arrive.rt:69:9
+-- src/arrive.rt:71:9
 sum-most-requires : tie.Need-sum-most-requires
 sum-most-requires c κs = search needs
 
--- src/arrive.rt:70:14
+-- src/arrive.rt:72:14
 mul-at : tie.Need-mul-at
 mul-at c = let p = small (c .before .before .before .before .before .before .before .before .before .before .before .before .before) in let l = c .before .before .before .before .before .before .before .before .before .before .before .before .before .pre .1 .1 .1 .0 .places in let w = c .before .before .before .before .before .before .before .before .before .before .before .before .before .pre .1 .0 .width-most in search (needs, p, l, w)
 
--- src/arrive.rt:72:23
+-- src/arrive.rt:74:23
 add-renew : tie.Need-add-renew
 add-renew c = search needs
 
--- src/arrive.rt:72:9
+-- src/arrive.rt:74:9
 sub-renew : tie.Need-sub-renew
 sub-renew c = search needs
 
--- src/arrive.rt:72:9
+-- src/arrive.rt:74:9
 part-renew-start : tie.Need-part-renew-start
 part-renew-start c = search needs
 
--- src/arrive.rt:72:9
+-- src/arrive.rt:74:9
 part-renew-end : tie.Need-part-renew-end
 part-renew-end c = let p = small (c .before .before .before .before .before .before .before .before .before .before .before .before .before) in let l = c .before .before .before .before .before .before .before .before .before .before .before .before .before .pre .1 .1 .1 .0 .places in let w = c .before .before .before .before .before .before .before .before .before .before .before .before .before .pre .1 .0 .width-most in search (needs, p, l, w)
 
--- src/arrive.rt:73:19
+-- src/arrive.rt:75:23
 add-renew-2 : tie.Need-add-renew-2
 add-renew-2 c = let p = small (c .before .before .before .before .before .before .before .before .before .before .before .before .before .before) in let e = ends (c .before .before .before .before .before .before .before .before .before .before .before .before .before .before) in search (needs, p, e)
 
--- src/arrive.rt:73:9
+-- src/arrive.rt:75:9
 mul-renew : tie.Need-mul-renew
 mul-renew c = let p = small (c .before .before .before .before .before .before .before .before .before .before .before .before .before .before) in let e = ends (c .before .before .before .before .before .before .before .before .before .before .before .before .before .before) in search (needs, p, e)
 
--- src/arrive.rt:73:9
+-- src/arrive.rt:75:9
 sub-renew-2 : tie.Need-sub-renew-2
 sub-renew-2 c = search needs
 
--- src/arrive.rt:73:9
+-- src/arrive.rt:75:9
 part-renew-start-2 : tie.Need-part-renew-start-2
 part-renew-start-2 c = search needs
 
--- src/arrive.rt:73:9
+-- src/arrive.rt:75:9
 part-renew-end-2 : tie.Need-part-renew-end-2
 part-renew-end-2 c = let p = small (c .before .before .before .before .before .before .before .before .before .before .before .before .before .before) in let e = ends (c .before .before .before .before .before .before .before .before .before .before .before .before .before .before) in search (needs, p, e)
 
--- src/arrive.rt:71:9
+-- src/arrive.rt:73:9
 renew-requires : tie.Need-renew-requires
 renew-requires c κs = let w = c .before .before in
     let s = begun w in
@@ -192,50 +202,57 @@ renew-requires c κs = let w = c .before .before in
       (omega arith, wide, q, g .q2-most),
     )
 
--- src/arrive.rt:81:9
+-- src/arrive.rt:83:9
 same-length : tie.Need-same-length
 same-length c = search needs
 
--- src/arrive.rt:81:9
-returns : tie.Need-returns
-returns c = let r = c .before .before .before in
-    (sym (no (answered r) (c .if1 .taken)), ((λ h. absurd (subst T (sym h) tt)), blank r))
+-- src/arrive.rt:83:9
+same-length-2 : tie.Need-same-length-2
+same-length-2 c = search needs
 
--- src/arrive.rt:83:5
+-- src/arrive.rt:83:9
+returns : tie.Need-returns
+returns c = let r = c .before .before .before .before .before in
+    (sym (no (answered r) (c .if1 .taken)), ((λ h. absurd (subst T (sym h) tt)), (moved r, blank r)))
+
+-- src/arrive.rt:85:5
 weigh-requires : tie.Need-weigh-requires
 weigh-requires c κs = let e = c .before .before .before in
-    let r = e .before .before .before in
+    let r = e .before .before .before .before .before in
     let z = s r in
     let good = passed e in
     let l = line r good in
     let w = z .pre .1 .0 .width-most in (
-      (z .pre .0 .0, z .pre .0 .2, w, blank r .places, z .pre .1 .1 .1 .1, le-trans w (z .pre .1 .1 .0 .long)),
-      (l .before, (in-line (arrived z) (z .args .k) good l, weighed-room (arrived z) (z .args .k) (z .pre .0 .0) (z .pre .0 .2) (z .pre .1 .1 .0))),
+      (z .pre .0 .0, z .pre .0 .2, w, blank r .places, z .pre .1 .1 .1 .1, z .pre .1 .1 .0 .0),
+      (l .before, (in-line (arrived z) (z .args .k) good l, z .pre .1 .1 .0 .1)),
     )
 
--- src/arrive.rt:44:1
-same-length-2 : tie.Need-same-length-2
-same-length-2 c = search needs
-
--- src/arrive.rt:44:1
+-- src/arrive.rt:45:1
 same-length-3 : tie.Need-same-length-3
 same-length-3 c = search needs
 
--- src/arrive.rt:44:1
+-- src/arrive.rt:45:1
 same-length-4 : tie.Need-same-length-4
 same-length-4 c = search needs
 
--- src/arrive.rt:44:1
+-- src/arrive.rt:45:1
+same-length-5 : tie.Need-same-length-5
+same-length-5 c = search needs
+
+-- src/arrive.rt:45:1
+same-length-6 : tie.Need-same-length-6
+same-length-6 c = search needs
+
+-- src/arrive.rt:45:1
 returns-2 : tie.Need-returns-2
 returns-2 c = let u = c .before .before .before .before in
     let e = u .before .before .before .before in
-    let r = e .before .before .before in
-    let z = s r in
-    let good = passed e in (
+    let r = e .before .before .before .before .before in
+    let z = s r in (
       sym (yes (answered r) (e .if1 .left)),
       (
-        (λ h. weighed-next (arrived z) (z .args .k) (z .pre .0 .0) (z .pre .0 .2) good (line r good) (z .pre .1 .1 .0) (z .pre .1 .0 .width-most) (u .weigh .ensures)),
-        blank r,
+        (λ h. u .weigh .ensures ∙ ap (λ xs. xs ++ drop (z .args .width) (now (z .args .acc))) (line-part (arrived z) (z .args .k) (now (z .args .acc)) (line r (passed e)))),
+        (moved r, blank r),
       ),
     )
 
@@ -260,9 +277,11 @@ rectangle-spec =
     part-renew-end-2
     renew-requires
     same-length
+    same-length-2
     returns
     weigh-requires
-    same-length-2
     same-length-3
     same-length-4
+    same-length-5
+    same-length-6
     returns-2)

@@ -1,24 +1,21 @@
 use borrow.Rule.Slice.PartMut.{putMid}
 use native.Mathlib.Nat.{le-of-eq}
 use mathlib.Core.List.{_++_}
-use Rattle.scan.proofs.Places.{kept-most, part-length}
+use Rattle.scan.proofs.Places.{kept-most, line-end, part-length}
+use Rattle.scan.proofs.Carries.{all-back}
 use Rattle.scan.proofs.Rectangles.{dark-none}
 use Rattle.scan.proofs.Taken.{says-19, says-yes, weighed-none, settles, settles-word, keeps}
-use Rattle.scan.specs.Passes.{Weighed, Room}
-use Rattle.scan.specs.Calls.{by, arrivalOf}
-use Rattle.scan.specs.Arrivals.{Arrival, sumGood, arrivalSays, samplesAfter, sumsAfter, outputAfter, pixelAt}
-use Rattle.limits.proofs.Granted.{Granted, granted}
-use Rattle.layout.specs.declared.Verdict.the-variants.{Accepted, Refused}
+use Rattle.scan.specs.Calls.{arrivalOf}
+use Rattle.scan.specs.Arrivals.{Arrival, sumGood, arrivalSays, samplesAfter, outputAfter}
+use Rattle.limits.proofs.Granted.{granted}
+use Rattle.layout.specs.declared.Verdict.the-variants.{Accepted}
 use Rattle.arith.proofs.Tabs.{tab-cong}
 use Rattle.arith.proofs.Firsts.{first-beyond}
 use Rattle.arith.proofs.Alls.{all-at}
-use Rattle.arith.specs.Tab.{tab}
 use Rattle.arith.specs.All.{all}
 use borrow.Author.Tests.{lt-ltb, le-ltb}
-use lib.Seq.{length-take-le}
-use lib.ListN.{length, drop, take, length-drop}
+use lib.ListN.{length, getD, drop}
 use lib.Dec.{T}
-use mathlib.Core.Bool.{true}
 use native.Mathlib.Omega.{arith}
 use Prim.Native.Nat.{ℕ, _+_, _-_, _*_, _%_, _≤_, _<_}
 use mathlib.Core.Path.{_≡_, refl, sym, ap, ap₂, _∙_, subst}
@@ -28,7 +25,7 @@ use Rattle.scan.proofs.rows.arrive.Tie as tie
 use Rattle.scan.proofs.rows.arrive.Reads as reads
 use Rattle.scan.proofs.rows.arrive.Lts as lts
 use Rattle.layout.proofs.delay.Reads as delay-reads
-use Rattle.scan.proofs.arrive.carry_all.Reads as carry-all-reads
+use Rattle.scan.proofs.arrive.take_back_first.Reads as take-back-first-reads
 use Rattle.scan.proofs.arrive.values.Reads as values-reads
 use Rattle.scan.proofs.arrive.write_row.Reads as write-row-reads
 use Rattle.scan.proofs.kept.keep_row.Reads as keep-row-reads
@@ -41,12 +38,12 @@ abbrev arrived : tie.After-values → Arrival
 arrived c = arrivalOf (start c .args .s) (start c .args .row .now) (start c .args .samples .now) (start c .args .sums .now)
 
 -- where no rectangle failed
-accepted : (c : tie.Else1) → arrivalSays (arrived (c .before .before .before)) ≡ Accepted
-accepted c = let w = c .before .before .before in says-yes (arrived w) (w .values .result) (w .values .ensures .0) (c .if1 .left)
+accepted : (c : tie.Else1) → arrivalSays (arrived (c .before .before .before .before .before)) ≡ Accepted
+accepted c = let w = c .before .before .before .before .before in says-yes (arrived w) (w .values .result) (w .values .ensures .0) (c .if1 .left)
 
-good : (c : tie.Else1) → T (all (start (c .before .before .before) .args .s .table .count) (λ k. all (start (c .before .before .before) .args .s .width) (sumGood (arrived (c .before .before .before)) k)))
+good : (c : tie.Else1) → T (all (start (c .before .before .before .before .before) .args .s .table .count) (λ k. all (start (c .before .before .before .before .before) .args .s .width) (sumGood (arrived (c .before .before .before .before .before)) k)))
 good c =
-    let w = c .before .before .before in
+    let w = c .before .before .before .before .before in
     let v = arrived w in
     first-beyond (v .table .count) (λ k. all (v .width) (sumGood v k)) (subst (λ n. v .table .count ≤ n) (w .values .ensures .0) (c .if1 .left))
 
@@ -69,12 +66,24 @@ place-small c =
     let l = start c .pre .1 .0 .width-most in
     omega arith
 
+-- the sums of a refused arrival, taken back
+back : (c : tie.After-take-back-first) → c .take-back-first .last .0 ≡ start (c .before .before .before .before .before .before .before .before .before) .args .sums .now
+back c =
+    let f = c .before .before .before .before in
+    let w = f .before .before .before .before .before in
+    let z = start w in
+    let n = w .values .result + 1 in
+    let small : (i : ℕ) → getD (z .args .sums .now) i 0 < 4294967296 = λ i. w .before .before .before .before .before .before .before .before .slice-known2 .given i .fits in
+    let l = line-end (w .values .result) (z .args .s .table .count) (z .args .s .width) (length (z .args .sums .now)) (f .if1 .taken) (z .pre .1 .0 .sums-long) in
+    c .take-back-first .ensures
+    ∙ all-back (z .args .s .table) (z .args .s .width) (z .args .s .rows + z .args .s .steps) (z .args .row .now) (z .args .samples .now) (z .args .sums .now) n small (w .values .ensures .1 .1 .1 (f .if1 .taken)) (omega arith)
+
 -- the arriving row in its place
-kept : (m : tie.After-keep-row) → let w = m .before .before .before .before .before .before .before .before .before .before .before in
+kept : (m : tie.After-keep-row) → let w = m .before .before .before .before .before .before .before in
     putMid (place w) (place w + start w .args .s .width - place w) (start w .args .samples .now) (m .keep-row .last .0) ≡ samplesAfter (arrived w)
 unfolding samplesAfter
 kept m =
-    let w = m .before .before .before .before .before .before .before .before .before .before .before in
+    let w = m .before .before .before .before .before .before .before in
     let z = start w in
     ap₂ (λ j ys. putMid (place w) j (z .args .samples .now) ys) (part-long (place w) (z .args .s .width)) (m .keep-row .ensures)
     ∙ keeps (place w) (z .args .s .width) (z .args .row .now) (z .args .samples .now) (z .pre .1 .1 .0) (place-end w)
@@ -109,48 +118,55 @@ values-requires c κs = let z = c .before .before .before .before .before .befor
     let v = arrivalOf (z .args .s) (z .args .row .now) (z .args .samples .now) (z .args .sums .now) in
     ((z .pre .0 .0, c .before .before .before .before .delay .ensures), (z .pre .1 .0, (weighed-none v (z .pre .1 .0 .width-most), dark-none)))
 
--- src/rows.rt:49:37
-cast-t24 : tie.Need-cast-t24
-cast-t24 c = let z = start (c .before .before .before) in
+-- src/rows.rt:49:31
+slice-aggregate-take-back-first : tie.Need-slice-aggregate-take-back-first
+slice-aggregate-take-back-first c = search needs
+
+-- src/rows.rt:49:42
+add-take-back-first : tie.Need-add-take-back-first
+add-take-back-first c = search needs
+
+-- src/rows.rt:49:9
+take-back-first-requires : tie.Need-take-back-first-requires
+take-back-first-requires c κs = let f = c .before .before .before in
+    let w = f .before .before .before .before .before in
+    let z = start w in
+    let t = f .if1 .taken in
+    ((z .pre .0 .0, w .before .before .before .before .before .delay .ensures, omega arith, dark-none), rw (w .values .kept .1 .1 .1 .1 .1 .1 .1 .0) (z .pre .1 .0))
+
+-- src/rows.rt:50:37
+cast-t32 : tie.Need-cast-t32
+cast-t32 c = let z = start (c .before .before .before .before .before .before .before .before .before .before .before) in
     let l = granted _ (z .pre .0 .0) .few in
     search (needs, l)
 
--- src/rows.rt:49:9
+-- src/rows.rt:50:9
 same-length : tie.Need-same-length
 same-length c = search needs
 
--- src/rows.rt:49:9
+-- src/rows.rt:50:9
 same-length-2 : tie.Need-same-length-2
 same-length-2 c = search needs
 
--- src/rows.rt:49:9
+-- src/rows.rt:50:9
 returns : tie.Need-returns
-returns c = let w = c .before .before .before in
-    let r = says-19 (arrived w) (w .values .result) (w .values .ensures .0) (c .if1 .taken) in
-    (sym r, (rw r refl, (rw r refl, rw r refl)))
-
--- src/rows.rt:51:21
-slice-aggregate-carry-all : tie.Need-slice-aggregate-carry-all
-slice-aggregate-carry-all c = search needs
-
--- src/rows.rt:51:5
-carry-all-requires : tie.Need-carry-all-requires
-carry-all-requires c κs = let e = c .before .before .before in
-    let w = e .before .before .before in
-    let z = start w in
-    ((z .pre .0 .0, w .before .before .before .before .before .delay .ensures, dark-none), (z .pre .1 .0, good e))
+returns c = let b = c .before .before in
+    let f = b .before .before .before .before in
+    let w = f .before .before .before .before .before in
+    let r = says-19 (arrived w) (w .values .result) (w .values .ensures .0) (f .if1 .taken) in
+    (sym r, (rw r refl, (rw r (back b), rw r refl)))
 
 -- src/rows.rt:52:13
 mul-p : tie.Need-mul-p
-mul-p c = let l = place-small (c .before .before .before .before .before .before .before .before .before) in search (needs, l)
+mul-p c = let l = place-small (c .before .before .before .before .before) in search (needs, l)
 
 -- src/rows.rt:53:30
 add-keep-row : tie.Need-add-keep-row
-add-keep-row c = let l = place-small (c .before .before .before .before .before .before .before .before .before) in search (needs, l)
+add-keep-row c = let l = place-small (c .before .before .before .before .before) in search (needs, l)
 
 -- src/rows.rt:53:14
 mul-keep-row : tie.Need-mul-keep-row
-mul-keep-row c = let l = place-small (c .before .before .before .before .before .before .before .before .before) in search (needs, l)
+mul-keep-row c = let l = place-small (c .before .before .before .before .before) in search (needs, l)
 
 -- src/rows.rt:53:14
 sub-keep-row : tie.Need-sub-keep-row
@@ -162,11 +178,11 @@ part-keep-row-start c = search needs
 
 -- src/rows.rt:53:14
 part-keep-row-end : tie.Need-part-keep-row-end
-part-keep-row-end c = place-end (c .before .before .before .before .before .before .before .before .before)
+part-keep-row-end c = place-end (c .before .before .before .before .before)
 
 -- src/rows.rt:53:5
 keep-row-requires : tie.Need-keep-row-requires
-keep-row-requires c κs = let w = c .before .before .before .before .before .before .before .before .before .before in
+keep-row-requires c κs = let w = c .before .before .before .before .before .before in
     let z = start w in
     (le-of-eq (sym (part-length (place w) (z .args .s .width) (z .args .samples .now) (place-end w))), le-of-eq (sym (z .pre .1 .1 .0)))
 
@@ -176,11 +192,11 @@ slice-aggregate-write-row c = search needs
 
 -- src/rows.rt:55:9
 write-row-requires : tie.Need-write-row-requires
-write-row-requires c κs = let e = c .before .before .before .before .before .before .before .before .before .before .before .before .before in
-    let w = e .before .before .before in
+write-row-requires c κs = let e = c .before .before .before .before .before .before .before in
+    let w = e .before .before .before .before .before in
     let z = start w in
     let v = arrived w in
-    let a = w .values .ensures .1 (e .if1 .left) in
+    let a = w .values .ensures .1 .0 (e .if1 .left) in
     let f = granted _ (z .pre .0 .0) .few in (
       (z .pre .1 .1 .1, omega arith),
       (
@@ -207,19 +223,18 @@ unfolding samplesAfter outputAfter
 returns-2 c = let o = c .before in
     let t = o .before .before .before in
     let m = t .before .before .before in
-    let b = m .before .before .before .before in
-    let e = b .before .before .before .before in
-    let w = e .before .before .before in
+    let e = m .before .before in
+    let w = e .before .before .before .before .before in
     let z = start w in
     let v = arrived w in
     let r = accepted e in
-    let a = w .values .ensures .1 (e .if1 .left) in
+    let a = w .values .ensures .1 .0 (e .if1 .left) in
     let d = rw (w .before .before .before .before .before .delay .ensures) at (t .if2 .taken) in (
       sym r,
       (
         rw r (kept m),
         (
-          rw r (b .carry-all .ensures),
+          rw r (w .values .ensures .1 .1 .0 (e .if1 .left)),
           rw (r, le-ltb _ _ d) (o .write-row .ensures ∙ ap (λ l. l ++ drop (z .args .s .width) (z .args .out .now)) (tab-cong (z .args .s .width) (settles v _ a))),
         ),
       ),
@@ -237,12 +252,11 @@ same-length-7 c = search needs
 returns-3 : tie.Need-returns-3
 unfolding samplesAfter outputAfter
 returns-3 c = let m = c .before .before .before in
-    let b = m .before .before .before .before in
-    let e = b .before .before .before .before in
-    let w = e .before .before .before in
+    let e = m .before .before in
+    let w = e .before .before .before .before .before in
     let r = accepted e in
     let d = rw (w .before .before .before .before .before .delay .ensures) at (c .if2 .left) in
-    (sym r, (rw r (kept m), (rw r (b .carry-all .ensures), rw (r, lt-ltb _ _ d) refl)))
+    (sym r, (rw r (kept m), (rw r (w .values .ensures .1 .1 .0 (e .if1 .left)), rw (r, lt-ltb _ _ d) refl)))
 
 pub arrive-spec : {M : Type 1} → statement M
 arrive-spec =
@@ -255,12 +269,13 @@ arrive-spec =
     slice-aggregate-values
     slice-aggregate-values-2
     values-requires
-    cast-t24
+    slice-aggregate-take-back-first
+    add-take-back-first
+    take-back-first-requires
+    cast-t32
     same-length
     same-length-2
     returns
-    slice-aggregate-carry-all
-    carry-all-requires
     mul-p
     add-keep-row
     mul-keep-row

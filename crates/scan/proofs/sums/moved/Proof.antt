@@ -1,7 +1,7 @@
 use Rattle.scan.proofs.Moves.{step-good, step-sum, none-past, past-one}
-use lib.Dec.{eqb, leb}
-use mathlib.Core.Path.{_≡_, refl, ap, ap₂, _∙_}
-use Prim.Native.Nat.{ℕ, _+_, _<_}
+use lib.Dec.{leb}
+use mathlib.Core.Path.{_∙_}
+use Prim.Native.Nat.{_<_}
 use native.Mathlib.Omega.{arith}
 use borrow.Author.Needs.{needs}
 use Rattle.scan.proofs.sums.moved.Statement.{statement}
@@ -48,7 +48,7 @@ returns c = let a = c .before .before .before .before .args in
     let q = c .past2 .ensures in
     let x = past-one (leb less (a .bound)) in
     let y = past-one (leb sum (a .bound)) in
-    (rw (p, q) (none-past (leb less (a .bound)) (leb sum (a .bound)) ∙ good), (omega arith, step-sum (a .stored) (a .off) (a .on) less sum (a .bound) (f .stored .fits) (f .off .fits) (f .on .fits) l (c .before .before .before .before .pre) (c .before .before .before .wrapping-sub-u32 .ensures) (c .before .before .wrapping-add-u32 .ensures)))
+    (rw (p, q) (none-past (leb less (a .bound)) (leb sum (a .bound)) ∙ good), (omega arith, step-sum (a .stored) (a .off) (a .on) less sum (c .before .before .before .wrapping-sub-u32 .ensures) (c .before .before .wrapping-add-u32 .ensures)))
 
 pub moved-spec : {M : Type 1} → statement M
 moved-spec =
