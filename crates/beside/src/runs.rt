@@ -5,6 +5,7 @@ use crate::counts::add;
 use crate::counts::count;
 use crate::filter;
 use crate::filter::View;
+use arith::biased_long;
 use layout::Table;
 use scan::Answer;
 use scan::Closing;
@@ -63,11 +64,6 @@ fn due(height: usize, delay: usize, i: usize) -> usize
     ROW + (i - delay)
 }
 
-// z + 2^31
-fn raised_pixel(z: i32) -> u64 {
-    ((z as i64) + 2147483648) as u64
-}
-
 // Filtered row r against the filter beside the engine.
 fn compared(n: &mut [u64; 18], k: Task, given: &[u16; 65536], r: usize, out: &[i32; 1024])
     requires { ⌜ (k .width ≤ 1024) × (k .height ≤ 64) ⌝ }
@@ -85,7 +81,7 @@ fn compared(n: &mut [u64; 18], k: Task, given: &[u16; 65536], r: usize, out: &[i
     let mut c = 0;
     while c < k.width {
         v.col = c;
-        counts::pixel(n, raised_pixel(out[c]), filter::pixel(t, v, given) as u64);
+        counts::pixel(n, biased_long(out[c]), filter::pixel(t, v, given) as u64);
         c += 1;
     }
 }

@@ -20,13 +20,8 @@ fn put_refused(number: u32, place: u32) {
     put_number(b" ", place);
 }
 
-// z + 2^31
-fn raised(z: i32) -> u64 {
-    ((z as i64) + 2147483648) as u64
-}
-
 fn put_signed(z: i32) {
-    let x = raised(z);
+    let x = arith::biased_long(z);
     if x < 2147483648 {
         put(b" -");
         io::print_decimal(STDOUT_FILENO, 2147483648 - x);

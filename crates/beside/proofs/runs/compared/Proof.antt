@@ -14,14 +14,14 @@ abbrev μ-loop : tie.MeasureT-loop
 loop-holds : tie.Need-loop-holds Inv-loop μ-loop
 loop-holds c = search needs
 
-mul-raised-pixel : tie.Need-mul-raised-pixel Inv-loop μ-loop
-mul-raised-pixel c = search needs
+mul-biased-long : tie.Need-mul-biased-long Inv-loop μ-loop
+mul-biased-long c = search needs
 
-element-copy-out-raised-pixel : tie.Need-element-copy-out-raised-pixel Inv-loop μ-loop
-element-copy-out-raised-pixel c = search needs
+element-copy-out-biased-long : tie.Need-element-copy-out-biased-long Inv-loop μ-loop
+element-copy-out-biased-long c = search needs
 
-raised-pixel-requires : tie.Need-raised-pixel-requires Inv-loop μ-loop
-raised-pixel-requires c κs = search needs
+biased-long-requires : tie.Need-biased-long-requires Inv-loop μ-loop
+biased-long-requires c κs = search needs
 
 pixel-requires : tie.Need-pixel-requires Inv-loop μ-loop
 pixel-requires c κs = search needs
@@ -48,9 +48,9 @@ compared-spec =
     Inv-loop
     μ-loop
     loop-holds
-    mul-raised-pixel
-    element-copy-out-raised-pixel
-    raised-pixel-requires
+    mul-biased-long
+    element-copy-out-biased-long
+    biased-long-requires
     pixel-requires
     pixel-requires-2
     add-c
