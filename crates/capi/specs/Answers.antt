@@ -15,7 +15,8 @@ use Rattle.scan.specs.declared.Answer.{Answer}
 use Rattle.scan.specs.declared.Answer.the-variants.{Row, Waiting, Refused as RowRefused}
 use Rattle.scan.specs.declared.Closing.{Closing}
 use Rattle.scan.specs.declared.Closing.the-variants.{Row as LateRow, Waiting as StillWaiting, Done, Refused as StepRefused}
-use Rattle.scan.specs.Calls.{by, byTurn, startSays, startScan, closeSays, shut, rowSays, rowAnswer, rowIn, stepTurn, stepAnswer, stepIn}
+use Rattle.arrival.specs.Arrivals.{by}
+use Rattle.scan.specs.Calls.{byTurn, startSays, startScan, closeSays, shut, rowSays, rowAnswer, rowIn, stepTurn, stepAnswer, stepIn}
 use Rattle.pixel.specs.declared.Found.{Found}
 use Rattle.pixel.specs.declared.Found.the-variants.{Pixel, Refused as NoPixel}
 use Rattle.pixel.specs.Call.{pixelAnswer}

@@ -2,8 +2,8 @@
 ghost use mathlib.Core.Path.{_≡_};
 ghost use Prim.Native.Nat.{_*_};
 ghost use lib.ListN.{length};
-ghost use Rattle.scan.specs.Arrivals.{samplesAfter, sumsAfter, outputAfter};
-ghost use Rattle.scan.specs.Calls.{by, byTurn, startSays, wiped, arrivalOf, rowSays, closingOf, stepTurn};
+ghost use Rattle.arrival.specs.Arrivals.{by, samplesAfter, sumsAfter, outputAfter};
+ghost use Rattle.scan.specs.Calls.{byTurn, startSays, wiped, arrivalOf, rowSays, closingOf, stepTurn};
 ghost use Rattle.capi.specs.Answers.{startedC, rowC, stepC, startC, closeC, rowInC, stepInC};
 use layout::Table;
 use layout::Verdict;

@@ -35,9 +35,9 @@ use Rattle.layout.specs.declared.Verdict.the-variants.{Accepted}
 use Rattle.rule.specs.Questions.{askEach}
 use Rattle.arith.proofs.Bools.{true-of}
 use Rattle.run.proofs.Grids.{grid-at}
-use Rattle.scan.specs.Arrivals.{Arrival, arrivalSays, sumsAfter, rowAt, edgeRow, cutAt, leaving, entering, stored, newSum, sumMost, sumGood, lineAt, windowAt, scaledAt, pixelAt}
+use Rattle.arrival.specs.Arrivals.{Arrival, arrivalSays, sumsAfter, rowAt, edgeRow, cutAt, leaving, entering, stored, newSum, sumMost, sumGood, lineAt, windowAt, scaledAt, pixelAt}
 use Rattle.rule.proofs.Depends.{lead-most}
-use Rattle.scan.proofs.Delays.{delay-most}
+use Rattle.arrival.proofs.Delays.{delay-most}
 use Rattle.run.proofs.Columns.{slide, leaving-row, entering-row, due-row, next-row}
 use Rattle.run.specs.Holds.{Kept}
 use Rattle.run.proofs.Kept.{row-is}

@@ -26,8 +26,8 @@ use Rattle.rule.specs.Pixels.{pixelOf}
 use Rattle.scan.specs.declared.Scan.{Scan as Engine}
 use Rattle.scan.specs.declared.Answer.the-variants.{Row, Waiting}
 use Rattle.scan.specs.declared.Closing.the-variants.{Row as LateRow, Waiting as StillWaiting, Done}
-use Rattle.scan.specs.Arrivals.{Arrival, arrivalSays, pixelAt, samplesAfter, sumsAfter, outputAfter}
-use Rattle.scan.specs.Calls.{by, agrees, storesGood, arrivalOf, rowAsked, rowSays, rowAnswer, rowIn, closeSays, shut, turn, byTurn, done as allOut, taken, closingOf, stepTurn, stepAnswer, stepIn}
+use Rattle.arrival.specs.Arrivals.{Arrival, by, storesGood, arrivalSays, pixelAt, samplesAfter, sumsAfter, outputAfter}
+use Rattle.scan.specs.Calls.{agrees, arrivalOf, rowAsked, rowSays, rowAnswer, rowIn, closeSays, shut, turn, byTurn, done as allOut, taken, closingOf, stepTurn, stepAnswer, stepIn}
 use Rattle.run.specs.Runs.{World, Call, rowCall, closeCall, stepCall, Reply, filtered, waiting, done, closed, rowReply, stepReply, after, reply, due}
 use Rattle.run.proofs.Arrives.{Lies}
 use Rattle.run.specs.Holds.{Stores}

@@ -15,7 +15,7 @@ use lib.ListN.{length, getD, take, drop, length-append, length-drop, List·getD-
 use lib.Seq.{getD-append-add, getD-take, getD-drop, length-take-le}
 use Rattle.arith.specs.Tab.{paste}
 use Rattle.rule.specs.Sums.{Scan}
-use Rattle.scan.specs.Arrivals.{rowAt}
+use Rattle.arrival.specs.Arrivals.{rowAt}
 use Rattle.run.specs.Holds.{Kept}
 
 -- a list pasted over another: before it, in it, and after it

@@ -27,8 +27,8 @@ use Rattle.rule.proofs.Fitting.{column-fits, window-fits}
 use Rattle.pixel.specs.Call.{pixelSays}
 use Rattle.scan.specs.declared.Answer.the-variants.{Row, Waiting}
 use Rattle.scan.specs.declared.Closing.the-variants.{Row as LateRow, Waiting as StillWaiting}
-use Rattle.scan.specs.Arrivals.{Arrival, stored, leaving, newSum, samplesAfter, sumsAfter, outputAfter}
-use Rattle.scan.specs.Calls.{by, agrees, arrivalOf, closingOf, rowAsked, rowSays, rowAnswer, rowIn, closeSays, shut, Turn, refused as notTaken, done as allOut, taken, byTurn, stepTurn, stepAnswer, stepIn}
+use Rattle.arrival.specs.Arrivals.{Arrival, by, stored, leaving, newSum, samplesAfter, sumsAfter, outputAfter}
+use Rattle.scan.specs.Calls.{agrees, arrivalOf, closingOf, rowAsked, rowSays, rowAnswer, rowIn, closeSays, shut, Turn, refused as notTaken, done as allOut, taken, byTurn, stepTurn, stepAnswer, stepIn}
 use Rattle.run.specs.Runs.{World, Call, rowCall, closeCall, stepCall, Reply, filtered, waiting, done, closed, refused, rowReply, closeReply, stepReply, reply, after, run, unless, acceptedCalls, acceptedReplies, flat, goodRows}
 use Rattle.run.proofs.Columns.{covered-next}
 use Rattle.run.proofs.Arrives.{Finds, new-is}

@@ -22,7 +22,7 @@ use Rattle.limits.specs.Limits.{acceptable}
 use Rattle.rule.specs.Sums.{Scan, columnSum}
 use Rattle.rule.specs.Pixels.{pixelOf}
 use borrow.Author.Tests.{lt-ltb, le-ltb}
-use Rattle.scan.specs.Arrivals.{Arrival, stored, newSum, arrivalSays, pixelAt, samplesAfter, sumsAfter, outputAfter}
+use Rattle.arrival.specs.Arrivals.{Arrival, stored, newSum, arrivalSays, pixelAt, samplesAfter, sumsAfter, outputAfter}
 use Rattle.run.specs.Holds.{Kept, Stores}
 use Rattle.run.proofs.Kept.{kept-next}
 use Rattle.run.proofs.Arrives.{Lies, Finds, pixel-is, says-accepted, sums-next}

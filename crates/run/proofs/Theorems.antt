@@ -22,8 +22,9 @@ use Rattle.limits.specs.Limits.{acceptable}
 use Rattle.rule.specs.Questions.{widthGood}
 use Rattle.rule.specs.Sums.{Scan, sampleAt, covered, columnSum}
 use Rattle.rule.proofs.Depends.{covered-most, lead-most}
-use Rattle.scan.specs.Calls.{storesGood, startSays}
-use Rattle.scan.proofs.States.{stores-bounds}
+use Rattle.arrival.specs.Arrivals.{storesGood}
+use Rattle.scan.specs.Calls.{startSays}
+use Rattle.arrival.proofs.Asked.{stores-bounds}
 use Rattle.run.specs.Runs.{World, Call, rowCall, closeCall, stepCall, Reply, done, closed, refused, after, reply, run, ended, begun, flat, goodRows, due, dues, rowCalls, wholeCalls, wholeReplies}
 use Rattle.pixel.specs.declared.Found.the-variants.{Pixel}
 use Rattle.pixel.specs.Call.{pixelAnswer}

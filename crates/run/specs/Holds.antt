@@ -13,7 +13,7 @@ use Rattle.layout.specs.Measure.{delayOf}
 use Rattle.limits.specs.Limits.{acceptable}
 use Rattle.rule.specs.Questions.{widthGood}
 use Rattle.rule.specs.Sums.{Scan, columnSum}
-use Rattle.scan.specs.Calls.{storesGood}
+use Rattle.arrival.specs.Arrivals.{storesGood}
 use Rattle.run.specs.Runs.{goodRows}
 
 -- a table that loading accepts, a width from 1 to 1,024, stores and an output long enough, whatever they hold, and at most 65,535 rows of L

@@ -20,8 +20,8 @@ use Rattle.scan.specs.declared.Answer.{Answer}
 use Rattle.scan.specs.declared.Answer.the-variants.{Row, Waiting, Refused as RowRefused}
 use Rattle.scan.specs.declared.Closing.{Closing}
 use Rattle.scan.specs.declared.Closing.the-variants.{Row as LateRow, Waiting as StillWaiting, Done, Refused as StepRefused}
-use Rattle.scan.specs.Arrivals.{samplesAfter, sumsAfter, outputAfter}
-use Rattle.scan.specs.Calls.{by, fresh, wiped, arrivalOf, rowSays, rowAnswer, rowIn, closeSays, shut, Turn, byTurn, closingOf, stepTurn, stepAnswer, stepIn}
+use Rattle.arrival.specs.Arrivals.{by, samplesAfter, sumsAfter, outputAfter}
+use Rattle.scan.specs.Calls.{fresh, wiped, arrivalOf, rowSays, rowAnswer, rowIn, closeSays, shut, Turn, byTurn, closingOf, stepTurn, stepAnswer, stepIn}
 
 -- a scan, and the stores and the output that are lent to its calls
 pub record World : Type 0 where

@@ -1,11 +1,2 @@
-pub mod Answered
-pub mod Places
-pub mod Moves
-pub mod Lines
-pub mod Delays
-pub mod Carries
-pub mod Rectangles
-pub mod Taken
-pub mod Theorems
 pub mod States
 pub mod Rooms

@@ -1,4 +1,4 @@
--- What the questions before 19 tell: what the arrival of a row or of a closing step asks.
+-- What the questions before 19 tell: a row or a closing step that passes them arrives, and is asked 19.
 -- Assumes nothing.
 use Prim.Native.Nat.{ℕ, _+_, _-_, _≤_, _<_}
 use native.Mathlib.Omega.{arith}
@@ -8,19 +8,18 @@ use mathlib.Core.List.{List}
 use lib.Dec.{T, leb, ltb, eqb, eqb→eq}
 use lib.ListN.{length, take, replicate, length-replicate, getD-replicate}
 use lib.Seq.{ext-getD, length-take-le, getD-take}
+use borrow.Author.Tests.{le-leb, eq-eqb}
 use Rattle.arith.specs.Tab.{tab}
 use Rattle.arith.proofs.Tabs.{length-tab, getD-tab}
 use Rattle.layout.specs.declared.Verdict.the-variants.{Accepted}
 use Rattle.layout.specs.Answers.{ask}
 use Rattle.layout.specs.Measure.{delayOf}
 use Rattle.limits.proofs.Asked.{ask-accepted}
-use Rattle.rule.proofs.Asked.{width-bounds}
+use Rattle.arrival.specs.Arrivals.{storesGood, arrivalSays, arrivalAsked}
+use Rattle.arrival.proofs.Delays.{delay-most}
 use Rattle.scan.specs.declared.Scan.{Scan}
-use Rattle.scan.specs.Arrivals.{arrivalSays}
-use Rattle.scan.specs.Calls.{agrees, storesGood, rowAsked, closingOf, turn, done, taken, stepTurn}
-use Rattle.scan.specs.Passes.{Room}
-use Rattle.scan.proofs.Delays.{delay-most}
-use Rattle.scan.proofs.States.{agreed, lent-bounds}
+use Rattle.scan.specs.Calls.{agrees, arrivalOf, rowAsked, closingOf, turn, done, taken, stepTurn}
+use Rattle.scan.proofs.States.{agreed}
 
 -- the numbers of a state that agrees
 pub counts : (s : Scan) → agrees s ≡ true → (s .rows ≤ 65535) × (s .steps ≤ 15)
@@ -30,20 +29,15 @@ counts s e =
     let r = a .steps in
     (a .rows, omega arith)
 
--- a row of the width, and stores that are long enough
-pub room : (s : Scan) (row samples sums out : ℕ) → agrees s ≡ true → row ≡ s .width
-    → (storesGood (s .width) (s .table .count) samples sums && leb (s .width) out) ≡ true
-    → Room (s .table) (s .width) (s .rows + s .steps) row samples sums
-room s row samples sums out e long lent =
+-- a row of the width, and stores that are long enough: an arrival that is asked 19
+pub arrives : (s : Scan) (row samples sums : List ℕ) (out : ℕ) → agrees s ≡ true → length row ≡ s .width
+    → (storesGood (s .width) (s .table .count) (length samples) (length sums) && leb (s .width) out) ≡ true
+    → arrivalAsked (arrivalOf s row samples sums) out ≡ Accepted
+unfolding arrivalAsked
+arrives s row samples sums out e long lent =
+    let a = agreed s e in
     let n = counts s e in
-    let b = lent-bounds (s .width) (s .table .count) samples sums out lent in
-    record {
-      width-most = width-bounds (agreed s e .width) .1;
-      number-most = omega arith;
-      row-long = omega arith;
-      samples-long = b .0;
-      sums-long = b .1;
-    }
+    rw (a .table, a .width, le-leb (s .rows + s .steps) 65550 (omega arith), eq-eqb (length row) (s .width) long, lent) refl
 
 -- a row that the questions before 19 accept
 pub record Asked (s : Scan) (row samples sums out : ℕ) : Type 0 where
@@ -62,7 +56,7 @@ asked s row samples sums out e =
     record { state = a .0; long = eqb→eq (length row) (s .width) (subst T (sym (d .0)) tt); lent = f .0 }
 
 -- the first places of a line of zeros
-pub zeros-long : (l n : ℕ) → l ≤ n → length (take {A = ℕ} (l - 0) (replicate n 0)) ≡ l
+zeros-long : (l n : ℕ) → l ≤ n → length (take {A = ℕ} (l - 0) (replicate n 0)) ≡ l
 zeros-long l n h =
     let e : l - 0 ≡ l = omega arith in
     let line : List ℕ = replicate n 0 in

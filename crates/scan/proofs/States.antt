@@ -1,8 +1,8 @@
--- What the answers to questions 13 and 14 tell.
+-- What the answer to question 14 and an accepted start tell.
 -- Assumes nothing.
-use Prim.Native.Nat.{ℕ, _*_, _≤_}
+use Prim.Native.Nat.{ℕ, _≤_}
 use mathlib.Core.Path.{_≡_, sym, subst}
-use mathlib.Core.Bool.{Bool, true, cond, _&&_}
+use mathlib.Core.Bool.{true, cond}
 use lib.Dec.{T, leb, eqb, leb→le}
 use mir.Facts.{and-yes}
 use Rattle.arith.proofs.Bools.{true-of}
@@ -13,7 +13,8 @@ use Rattle.limits.specs.Limits.{acceptable}
 use Rattle.limits.proofs.Asked.{ask-accepted}
 use Rattle.rule.specs.Questions.{widthGood}
 use Rattle.scan.specs.declared.Scan.{Scan}
-use Rattle.scan.specs.Calls.{agrees, storesGood, startSays}
+use Rattle.arrival.specs.Arrivals.{storesGood}
+use Rattle.scan.specs.Calls.{agrees, startSays}
 
 -- a state whose numbers agree
 pub record Agreed (s : Scan) : Type 0 where
@@ -37,21 +38,6 @@ agreed s e =
       steps = leb→le (s .steps) (delayOf (s .table)) (d .0);
       unstepped = d .1;
     }
-
--- stores that are long enough
-pub stores-bounds : (l count samples sums : ℕ) → storesGood l count samples sums ≡ true → (32 * l ≤ samples) × (count * l ≤ sums)
-unfolding storesGood
-stores-bounds l count samples sums e =
-    let h = and-yes (leb (32 * l) samples) (leb (count * l) sums) (subst T (sym e) tt) in
-    (leb→le (32 * l) samples (h .0), leb→le (count * l) sums (h .1))
-
-pub lent-bounds :
-    (l count samples sums out : ℕ) → (storesGood l count samples sums && leb l out) ≡ true
-    → (32 * l ≤ samples) × (count * l ≤ sums) × (l ≤ out)
-lent-bounds l count samples sums out e =
-    let h = and-yes (storesGood l count samples sums) (leb l out) (subst T (sym e) tt) in
-    let b = stores-bounds l count samples sums (true-of _ (h .0)) in
-    (b .0, b .1, leb→le l out (h .1))
 
 -- an accepted start
 pub record Begins (t : Table) (l samples sums : ℕ) : Type 0 where

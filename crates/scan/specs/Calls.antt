@@ -1,6 +1,6 @@
 -- The four calls: what each answers, and what it leaves.
 -- Assumes nothing.
-use Prim.Native.Nat.{ℕ, suc, _+_, _-_, _*_, _^_}
+use Prim.Native.Nat.{ℕ, suc, _+_, _-_, _^_}
 use mathlib.Core.Bool.{Bool, true, false, not, cond, _&&_}
 use mathlib.Core.List.{List, [], _∷_, _++_}
 use lib.Dec.{leb, ltb, eqb}
@@ -19,16 +19,7 @@ use Rattle.scan.specs.declared.Answer.{Answer}
 use Rattle.scan.specs.declared.Answer.the-variants.{Row, Waiting, Refused as RowRefused}
 use Rattle.scan.specs.declared.Closing.{Closing}
 use Rattle.scan.specs.declared.Closing.the-variants.{Row as LateRow, Waiting as StillWaiting, Done, Refused as StepRefused}
-use Rattle.scan.specs.Arrivals.{Arrival, arrivalSays}
-
--- by a verdict: what holds where the call is accepted, and what where it is refused
-abbrev pub by {ℓ} : {A : Type ℓ} → Verdict → (accepted refused : A) → A
-by Accepted x y = x
-by (Refused number place) x y = y
-
--- question 13: the sample store holds 32·L numbers, and the sum store a number for each rectangle and column
-unfoldable pub storesGood : (l count samples sums : ℕ) → Bool
-storesGood l count samples sums = leb (32 * l) samples && leb (count * l) sums
+use Rattle.arrival.specs.Arrivals.{Arrival, by, storesGood, arrivalSays}
 
 -- question 14: the state's numbers agree
 unfoldable pub agrees : Scan → Bool

@@ -1,13 +1,9 @@
 // The scan engine: a scan row by row, with the column sums carried along. The state is a value; samples, sums and the
 // filtered row stand in stores that are lent to each call. Where a call is refused, each store is what it was.
-mod arrive;
-mod kept;
 mod rows;
 mod starts;
 mod state;
 mod steps;
-mod sums;
-mod window;
 
 use layout::Table;
 use layout::Verdict;

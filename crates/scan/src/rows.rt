@@ -1,61 +1,20 @@
 // A row.
 ghost use mathlib.Core.Path.{_≡_};
-ghost use mathlib.Core.Bool.{true};
-ghost use Prim.Native.Nat.{_+_, _*_, _≤_};
+ghost use Prim.Native.Nat.{_≤_};
 ghost use lib.ListN.{length};
-ghost use Rattle.limits.specs.Limits.{acceptable};
 ghost use Rattle.layout.specs.declared.Verdict.the-variants.{Accepted};
-ghost use Rattle.scan.specs.Arrivals.{arrivalSays, samplesAfter, sumsAfter, outputAfter};
-ghost use Rattle.scan.specs.Calls.{by, arrivalOf, rowAsked, rowSays, rowAnswer, rowIn};
-ghost use Rattle.scan.specs.Passes.{Room};
+ghost use Rattle.arrival.specs.Arrivals.{by, samplesAfter, sumsAfter, outputAfter};
+ghost use Rattle.scan.specs.Calls.{arrivalOf, rowAsked, rowSays, rowAnswer, rowIn};
 use crate::Answer;
 use crate::Moved;
 use crate::Scan;
-use crate::arrive::take_back_first;
-use crate::arrive::values;
-use crate::arrive::write_row;
-use crate::kept::keep_row;
 use crate::state::lent_good;
 use crate::state::state_good;
 use arith::power;
+use arrival::arrive;
 use layout::Verdict;
 use layout::delay;
 use rule::first_above;
-
-// Takes in what arrives, once all but question 19 is asked.
-pub fn arrive(
-    s: Scan,
-    row: &[u16],
-    samples: &mut [u16],
-    sums: &mut [u32],
-    out: &mut [i32],
-) -> Verdict
-    requires { ⌜ (acceptable (s .table) ≡ true) × (s .rows ≤ 65535) × (s .steps ≤ 15) ⌝ }
-    requires { ⌜ Room (s .table) (s .width) (s .rows + s .steps) (length (now row)) (length (now samples)) (length (now sums)) ⌝ }
-    requires { ⌜ (length (now row) ≡ s .width) × (s .width ≤ length (now out)) ⌝ }
-    ensures { λ v. ⌜ v ≡ arrivalSays (arrivalOf s (now (row .entry)) (now (samples .entry)) (now (sums .entry))) ⌝ }
-    ensures { λ _. ⌜ now (samples .exit) ≡ by (arrivalSays (arrivalOf s (now (row .entry)) (now (samples .entry)) (now (sums .entry)))) (samplesAfter (arrivalOf s (now (row .entry)) (now (samples .entry)) (now (sums .entry)))) (now (samples .entry)) ⌝ }
-    ensures { λ _. ⌜ now (sums .exit) ≡ by (arrivalSays (arrivalOf s (now (row .entry)) (now (samples .entry)) (now (sums .entry)))) (sumsAfter (arrivalOf s (now (row .entry)) (now (samples .entry)) (now (sums .entry)))) (now (sums .entry)) ⌝ }
-    ensures { λ _. ⌜ now (out .exit) ≡ by (arrivalSays (arrivalOf s (now (row .entry)) (now (samples .entry)) (now (sums .entry)))) (outputAfter (arrivalOf s (now (row .entry)) (now (samples .entry)) (now (sums .entry))) (now (out .entry))) (now (out .entry)) ⌝ }
-{
-    let t = s.table;
-    let width = s.width;
-    let arrival = (s.rows + s.steps) as usize;
-    let d = delay(t) as usize;
-    let mut acc = [2199023255552u64; 1024];
-    let zeros = [0u16; 1024];
-    let failed = values(&mut acc, &zeros, t, width, arrival, d, samples, sums, row);
-    if failed < t.count {
-        take_back_first(sums, &zeros, t, failed + 1, width, arrival, d, samples, row);
-        return Verdict::Refused(19, failed as u32);
-    }
-    let p = (arrival % 32) * width;
-    keep_row(&mut samples[p..p + width], row, width);
-    if d <= arrival {
-        write_row(out, &acc, width, t.t);
-    }
-    Verdict::Accepted
-}
 
 // The questions of a row before 19, on the lengths of the stores and the output.
 fn row_asked(s: Scan, row: &[u16], samples: usize, sums: usize, out: usize) -> Verdict
@@ -101,7 +60,7 @@ pub fn row(s: Scan, row: &[u16], samples: &mut [u16], sums: &mut [u32], out: &mu
             scan: s,
         },
         Verdict::Accepted => {
-            let w = arrive(s, row, samples, sums, out);
+            let w = arrive(s.table, s.width, s.rows + s.steps, row, samples, sums, out);
             match w {
                 Verdict::Refused(number, place) => Moved {
                     answer: Answer::Refused(number, place),

@@ -4,16 +4,28 @@ ghost use mathlib.Core.List.{_++_};
 ghost use Prim.Native.Nat.{_*_, _≤_};
 ghost use lib.ListN.{length, drop};
 ghost use Rattle.arith.specs.Tab.{tab};
-ghost use Rattle.scan.specs.Calls.{by, startSays, startScan, fresh, wiped, closeSays, shut};
+ghost use Rattle.arrival.specs.Arrivals.{by};
+ghost use Rattle.scan.specs.Calls.{startSays, startScan, fresh, wiped, closeSays, shut};
 use crate::Scan;
 use crate::Started;
-use crate::kept::wipe;
 use crate::state::state_good;
-use crate::state::stores_good;
+use arrival::stores_good;
 use layout::Table;
 use layout::Verdict;
 use limits::accepted;
 use rule::width_good;
+
+// Zeros into the first n samples.
+fn wipe(to: &mut [u16], n: usize)
+    requires { ⌜ n ≤ length (now to) ⌝ }
+    ensures { λ _. ⌜ now (to .exit) ≡ tab n (λ k. 0) ++ drop n (now (to .entry)) ⌝ }
+{
+    let mut c = 0;
+    while c < n {
+        to[c] = 0;
+        c += 1;
+    }
+}
 
 // Zeros into the first n sums.
 fn wipe_sums(to: &mut [u32], n: usize)

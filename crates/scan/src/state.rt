@@ -1,10 +1,11 @@
 // The questions on a scan's state and on the stores.
 ghost use mathlib.Core.Path.{_≡_};
 ghost use mathlib.Core.Bool.{_&&_};
-ghost use Prim.Native.Nat.{_≤_};
 ghost use lib.Dec.{leb};
-ghost use Rattle.scan.specs.Calls.{agrees, storesGood};
+ghost use Rattle.arrival.specs.Arrivals.{storesGood};
+ghost use Rattle.scan.specs.Calls.{agrees};
 use crate::Scan;
+use arrival::stores_good;
 use layout::delay;
 use limits::accepted;
 use rule::width_good;
@@ -28,21 +29,8 @@ pub fn state_good(s: Scan) -> bool
     if s.closed { true } else { s.steps == 0 }
 }
 
-// Question 13, on the lengths of the stores.
-pub fn stores_good(width: usize, count: usize, samples: usize, sums: usize) -> bool
-    requires { ⌜ (width ≤ 1024) × (count ≤ 16) ⌝ }
-    ensures { λ g. ⌜ g ≡ storesGood width count samples sums ⌝ }
-{
-    if 32 * width <= samples {
-        count * width <= sums
-    } else {
-        false
-    }
-}
-
 // Question 13 of a row or a step, with the length of the output.
 pub fn lent_good(width: usize, count: usize, samples: usize, sums: usize, out: usize) -> bool
-    requires { ⌜ (width ≤ 1024) × (count ≤ 16) ⌝ }
     ensures { λ g. ⌜ g ≡ (storesGood width count samples sums && leb width out) ⌝ }
 {
     if stores_good(width, count, samples, sums) {

@@ -2,14 +2,14 @@
 ghost use mathlib.Core.Path.{_≡_};
 ghost use Prim.Native.Nat.{_+_, _≤_};
 ghost use lib.ListN.{length};
-ghost use Rattle.scan.specs.Arrivals.{samplesAfter, sumsAfter, outputAfter};
+ghost use Rattle.arrival.specs.Arrivals.{samplesAfter, sumsAfter, outputAfter};
 ghost use Rattle.scan.specs.Calls.{taken, byTurn, closingOf, stepTurn, stepAnswer, stepIn};
 use crate::Closing;
 use crate::Scan;
 use crate::Stepped;
-use crate::rows::arrive;
 use crate::state::lent_good;
 use crate::state::state_good;
+use arrival::arrive;
 use layout::Verdict;
 use layout::delay;
 
@@ -66,7 +66,8 @@ pub fn step(s: Scan, samples: &mut [u16], sums: &mut [u32], out: &mut [i32]) -> 
         return stopped(Closing::Refused(13, 0), s);
     }
     let zeros = [0u16; 1024];
-    let v = arrive(s, &zeros[0..width], samples, sums, out);
+    let number = s.rows + s.steps;
+    let v = arrive(t, width, number, &zeros[0..width], samples, sums, out);
     match v {
         Verdict::Refused(number, place) => stopped(Closing::Refused(number, place), s),
         Verdict::Accepted => step_taken(s),

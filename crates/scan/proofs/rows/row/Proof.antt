@@ -1,6 +1,6 @@
-use Rattle.scan.proofs.Rooms.{Asked, asked, counts, room}
-use Rattle.scan.proofs.States.{agreed, lent-bounds}
-use Rattle.scan.specs.Calls.{rowAsked, rowAnswer}
+use Rattle.scan.proofs.Rooms.{Asked, asked, counts, arrives}
+use Rattle.arrival.specs.Arrivals.{arrivalAsked}
+use Rattle.scan.specs.Calls.{arrivalOf, rowAsked, rowAnswer}
 use Rattle.layout.specs.declared.Verdict.the-variants.{Accepted}
 use lib.ListN.{length}
 use mathlib.Core.Path.{_≡_, refl, sym, _∙_}
@@ -9,7 +9,7 @@ use Rattle.scan.proofs.rows.row.Statement.{statement}
 use Rattle.scan.proofs.rows.row.Tie as tie
 use Rattle.scan.proofs.rows.row.Reads as reads
 use Rattle.scan.proofs.rows.row.Lts as lts
-use Rattle.scan.proofs.rows.arrive.Reads as arrive-reads
+use Rattle.arrival.proofs.arrive.Reads as arrive-reads
 use Rattle.scan.proofs.rows.row_asked.Reads as row-asked-reads
 use Rattle.scan.proofs.rows.row_taken.Reads as row-taken-reads
 
@@ -21,6 +21,9 @@ accepted c = sym (c .before .before .row-asked .ensures) ∙ c .enum-told .given
 
 known : (c : tie.After-enum-told) → Asked (start c .args .s) (length (start c .args .row .now)) (length (start c .args .samples .now)) (length (start c .args .sums .now)) (length (start c .args .out .now))
 known c = asked _ _ _ _ _ (accepted c)
+
+arrived : (c : tie.After-enum-told) → arrivalAsked (arrivalOf (start c .args .s) (start c .args .row .now) (start c .args .samples .now) (start c .args .sums .now)) (length (start c .args .out .now)) ≡ Accepted
+arrived c = let h = known c in arrives _ _ _ _ _ (h .state) (h .long) (h .lent)
 
 -- src/rows.rt:96:9
 row-asked-requires : tie.Need-row-asked-requires
@@ -34,13 +37,13 @@ enum-known-v c = search needs
 enum-told : tie.Need-enum-told
 enum-told c = search needs
 
+-- src/rows.rt:70:53
+add-arrive : tie.Need-add-arrive
+add-arrive c = let n = counts (start (c .before) .args .s) (known (c .before) .state) in search (needs, n .0, n .1)
+
 -- src/rows.rt:103:17
 arrive-requires : tie.Need-arrive-requires
-arrive-requires c κs = let p = c .before .before .before in
-    let a = start p .args in
-    let h = known p in
-    let n = counts (a .s) (h .state) in
-    ((agreed (a .s) (h .state) .table, n .0, n .1), (room (a .s) _ _ _ _ (h .state) (h .long) (h .lent), (h .long, lent-bounds _ _ _ _ _ (h .lent) .2)))
+arrive-requires c κs = search needs
 
 -- src/rows.rt:105:34
 enum-known-w : tie.Need-enum-known-w
@@ -52,7 +55,7 @@ enum-told-2 c = search needs
 
 -- src/rows.rt:109:38
 row-taken-requires : tie.Need-row-taken-requires
-row-taken-requires c κs = let p = c .before .before .before .before .before .before .before .before .before .before .before in counts (start p .args .s) (known p .state)
+row-taken-requires c κs = let p = c .before .before .before .before .before .before .before .before .before .before .before .before in counts (start p .args .s) (known p .state)
 
 -- src/rows.rt:89:1
 returns : tie.Need-returns
@@ -76,8 +79,9 @@ same-length-3 c = search needs
 returns-2 : tie.Need-returns-2
 unfolding rowAnswer
 returns-2 c = let m = c .before .before .before .before .before .before .before .before in
-    let a = m .arrive .ensures in
-    let r = accepted (m .before .before .before .before) in
+    let p = m .before .before .before .before .before in
+    let a = rw (arrived p) at (m .arrive .ensures) in
+    let r = accepted p in
     let q = sym (a .0) ∙ c .before .w .given .1 in
     (rw (r, q) refl, (rw (r, q) refl, (rw r (a .1 .0), (rw r (a .1 .1 .0), rw r (a .1 .1 .1)))))
 
@@ -96,8 +100,9 @@ same-length-6 c = search needs
 -- src/rows.rt:89:1
 returns-3 : tie.Need-returns-3
 returns-3 c = let m = c .before .before .before .before .before .before .before .before in
-    let a = m .arrive .ensures in
-    let r = accepted (m .before .before .before .before) in
+    let p = m .before .before .before .before .before in
+    let a = rw (arrived p) at (m .arrive .ensures) in
+    let r = accepted p in
     let q = sym (a .0) ∙ c .before .enum-told2 .given .1 in
     (rw (r, q) (c .row-taken .ensures .0), (rw (r, q) (c .row-taken .ensures .1), (rw r (a .1 .0), (rw r (a .1 .1 .0), rw r (a .1 .1 .1)))))
 
@@ -108,6 +113,7 @@ row-spec =
     row-asked-requires
     enum-known-v
     enum-told
+    add-arrive
     arrive-requires
     enum-known-w
     enum-told-2

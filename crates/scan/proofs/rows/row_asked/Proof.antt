@@ -1,5 +1,6 @@
 use Rattle.scan.proofs.States.{Agreed, agreed}
-use Rattle.scan.specs.Calls.{agrees, storesGood, rowAsked}
+use Rattle.arrival.specs.Arrivals.{storesGood}
+use Rattle.scan.specs.Calls.{agrees, rowAsked}
 use Rattle.rule.proofs.Asked.{width-bounds, each-fails, each-holds}
 use Rattle.rule.specs.Questions.{atMost}
 use Rattle.limits.proofs.Granted.{Granted, granted}
@@ -12,7 +13,7 @@ use lib.Dec.{leb, ltb, eqb}
 use Prim.Native.Nat.{ℕ, _-_, _^_, _≤_, _<_}
 use mathlib.Core.Bool.{true, false, _&&_}
 use mathlib.Core.Path.{_≡_, refl, sym, ap, _∙_}
-use Rattle.scan.proofs.Answered.{yes, no}
+use Rattle.arrival.proofs.Answered.{yes, no}
 use borrow.Author.Needs.{needs}
 use Rattle.scan.proofs.rows.row_asked.Statement.{statement}
 use Rattle.scan.proofs.rows.row_asked.Tie as tie
@@ -86,8 +87,7 @@ returns-4 c = let x = c .before in
 
 -- src/rows.rt:77:9
 lent-good-requires : tie.Need-lent-good-requires
-lent-good-requires c κs = let a = agreed _ (answered (c .before) .state) in
-    (width-bounds (a .width) .1, granted _ (a .table) .few)
+lent-good-requires c κs = search needs
 
 -- src/rows.rt:78:9
 returns-5 : tie.Need-returns-5

@@ -1,6 +1,6 @@
 use Rattle.scan.specs.Calls.{closeSays}
 use mathlib.Core.Path.{_≡_, refl, sym, ap, _∙_}
-use Rattle.scan.proofs.Answered.{yes, no}
+use Rattle.arrival.proofs.Answered.{yes, no}
 use borrow.Author.Needs.{needs}
 use Rattle.scan.proofs.starts.close.Statement.{statement}
 use Rattle.scan.proofs.starts.close.Tie as tie

@@ -1,5 +1,6 @@
-use Rattle.scan.proofs.States.{Begins, begins, stores-bounds}
-use Rattle.scan.specs.Calls.{startSays, startScan, fresh, by, wiped}
+use Rattle.arrival.proofs.Asked.{stores-bounds}
+use Rattle.scan.proofs.States.{Begins, begins}
+use Rattle.scan.specs.Calls.{startSays, startScan, fresh, wiped}
 use Rattle.limits.proofs.Granted.{Granted, granted}
 use Rattle.rule.proofs.Asked.{width-bounds}
 use lib.ListN.{length}
@@ -11,7 +12,7 @@ use Rattle.scan.proofs.starts.start.Statement.{statement}
 use Rattle.scan.proofs.starts.start.Tie as tie
 use Rattle.scan.proofs.starts.start.Reads as reads
 use Rattle.scan.proofs.starts.start.Lts as lts
-use Rattle.scan.proofs.kept.wipe.Reads as wipe-reads
+use Rattle.scan.proofs.starts.wipe.Reads as wipe-reads
 use Rattle.scan.proofs.starts.begun.Reads as begun-reads
 use Rattle.scan.proofs.starts.start_asked.Reads as start-asked-reads
 use Rattle.scan.proofs.starts.wipe_sums.Reads as wipe-sums-reads

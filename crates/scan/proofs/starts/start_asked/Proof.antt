@@ -1,8 +1,6 @@
-use Rattle.rule.proofs.Asked.{width-bounds}
-use Rattle.limits.proofs.Granted.{Granted, granted}
 use Rattle.scan.specs.Calls.{startSays}
 use mathlib.Core.Path.{_≡_, refl, sym, ap, _∙_}
-use Rattle.scan.proofs.Answered.{yes, no}
+use Rattle.arrival.proofs.Answered.{yes, no}
 use borrow.Author.Needs.{needs}
 use Rattle.scan.proofs.starts.start_asked.Statement.{statement}
 use Rattle.scan.proofs.starts.start_asked.Tie as tie
@@ -10,7 +8,7 @@ use Rattle.scan.proofs.starts.start_asked.Reads as reads
 use Rattle.scan.proofs.starts.start_asked.Lts as lts
 use Rattle.limits.proofs.accepted.Reads as accepted-reads
 use Rattle.rule.proofs.width_good.Reads as width-good-reads
-use Rattle.scan.proofs.state.stores_good.Reads as stores-good-reads
+use Rattle.arrival.proofs.stores_good.Reads as stores-good-reads
 
 -- src/starts.rt:47:9
 accepted-requires : tie.Need-accepted-requires
@@ -33,8 +31,7 @@ returns-2 c = let u = c .before .before in
 
 -- src/starts.rt:53:9
 stores-good-requires : tie.Need-stores-good-requires
-stores-good-requires c κs = let u = c .before .before in
-    (width-bounds (yes (c .before .width-good .ensures) (c .if2 .left)) .1, granted _ (yes (u .before .accepted .ensures) (u .if1 .left)) .few)
+stores-good-requires c κs = search needs
 
 -- src/starts.rt:54:9
 returns-3 : tie.Need-returns-3

@@ -4,7 +4,7 @@ use Rattle.scan.proofs.state.lent_good.Statement.{statement}
 use Rattle.scan.proofs.state.lent_good.Tie as tie
 use Rattle.scan.proofs.state.lent_good.Reads as reads
 use Rattle.scan.proofs.state.lent_good.Lts as lts
-use Rattle.scan.proofs.state.stores_good.Reads as stores-good-reads
+use Rattle.arrival.proofs.stores_good.Reads as stores-good-reads
 
 -- src/state.rt:48:8
 stores-good-requires : tie.Need-stores-good-requires

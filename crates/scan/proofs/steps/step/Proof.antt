@@ -1,14 +1,16 @@
 use Rattle.arith.specs.Tab.{tab}
+use Rattle.arith.proofs.Tabs.{length-tab}
 use Prim.Native.Nat.{ℕ, _-_, _≤_}
 use mathlib.Core.Path.{_≡_, refl, sym, _∙_}
 use lib.ListN.{length, take, replicate}
-use Rattle.scan.proofs.Rooms.{counts, room, zeros, zeros-long, turned}
-use Rattle.scan.proofs.States.{agreed, lent-bounds}
-use Rattle.scan.proofs.Answered.{yes, no}
-use Rattle.scan.specs.Calls.{agrees, storesGood, stepAnswer}
+use Rattle.scan.proofs.Rooms.{counts, arrives, zeros, turned}
+use Rattle.scan.proofs.States.{agreed}
+use Rattle.arrival.proofs.Answered.{yes, no}
+use Rattle.arrival.specs.Arrivals.{storesGood, arrivalAsked}
+use Rattle.scan.specs.Calls.{agrees, closingOf, stepAnswer}
 use Rattle.rule.proofs.Asked.{width-bounds}
-use Rattle.limits.proofs.Granted.{granted}
 use Rattle.layout.specs.Measure.{delayOf}
+use Rattle.layout.specs.declared.Verdict.the-variants.{Accepted}
 use borrow.Author.Tests.{not-true, not-false, le-leb, lt-leb}
 use lib.Dec.{leb}
 use mathlib.Core.Bool.{true, false, _&&_}
@@ -18,7 +20,7 @@ use Rattle.scan.proofs.steps.step.Tie as tie
 use Rattle.scan.proofs.steps.step.Reads as reads
 use Rattle.scan.proofs.steps.step.Lts as lts
 use Rattle.layout.proofs.delay.Reads as delay-reads
-use Rattle.scan.proofs.rows.arrive.Reads as arrive-reads
+use Rattle.arrival.proofs.arrive.Reads as arrive-reads
 use Rattle.scan.proofs.state.lent_good.Reads as lent-good-reads
 use Rattle.scan.proofs.state.state_good.Reads as state-good-reads
 use Rattle.scan.proofs.steps.step_taken.Reads as step-taken-reads
@@ -54,6 +56,9 @@ narrow c = let p = c .before .before in width-bounds (agreed (start p .args .s) 
 -- what arrives is a row of zeros
 line : (c : tie.Else4) → take {A = ℕ} (start (c .before .before) .args .s .width - 0) (replicate 1024 0) ≡ tab (start (c .before .before) .args .s .width) (λ k. 0)
 line c = zeros (start (c .before .before) .args .s .width) 1024 (narrow c)
+
+arrived : (c : tie.Else4) → arrivalAsked (closingOf (start (c .before .before) .args .s) (start (c .before .before) .args .samples .now) (start (c .before .before) .args .sums .now)) (length (start (c .before .before) .args .out .now)) ≡ Accepted
+arrived c = let p = c .before .before in arrives (start p .args .s) _ _ _ _ (shut (opened p) .state) (length-tab {A = ℕ} _ (λ k. 0)) (lent c)
 
 -- src/steps.rt:54:9
 state-good-requires : tie.Need-state-good-requires
@@ -107,8 +112,7 @@ returns-3 c = let d = c .before .before .before in
 
 -- src/steps.rt:65:9
 lent-good-requires : tie.Need-lent-good-requires
-lent-good-requires c κs = let a = agreed (start c .args .s) (shut (opened c) .state) in
-    (width-bounds (a .width) .1, granted _ (a .table) .few)
+lent-good-requires c κs = search needs
 
 -- src/steps.rt:66:9
 stopped-requires-4 : tie.Need-stopped-requires-4
@@ -125,6 +129,11 @@ returns-4 c = let p = c .before .before .before in
     let r = c .stopped4 .ensures in
     (rw e (r .0), (rw e (r .1), (rw e refl, (rw e refl, rw e refl))))
 
+-- src/steps.rt:69:18
+add-number : tie.Need-add-number
+add-number c = let p = c .before .before .before in
+    let n = counts (start p .args .s) (shut (opened p) .state) in search (needs, n .0, n .1)
+
 -- src/steps.rt:69:23
 sub-arrive : tie.Need-sub-arrive
 sub-arrive c = search needs
@@ -135,17 +144,11 @@ part-arrive-start c = search needs
 
 -- src/steps.rt:69:23
 part-arrive-end : tie.Need-part-arrive-end
-part-arrive-end c = let w = narrow (c .before) in search (needs, w)
+part-arrive-end c = let w = narrow (c .before .before) in search (needs, w)
 
 -- src/steps.rt:69:9
 arrive-requires : tie.Need-arrive-requires
-arrive-requires c κs = let q = c .before .before .before .before .before in
-    let p = q .before .before in
-    let a = start p .args in
-    let e = shut (opened p) .state in
-    let n = counts (a .s) e in
-    let z = zeros-long (a .s .width) 1024 (narrow q) in
-    ((agreed (a .s) e .table, n .0, n .1), (room (a .s) _ _ _ _ e z (lent q), (z, lent-bounds _ _ _ _ _ (lent q) .2)))
+arrive-requires c κs = search needs
 
 -- src/steps.rt:71:26
 enum-known-v : tie.Need-enum-known-v
@@ -161,7 +164,7 @@ enum-told c = search needs
 
 -- src/steps.rt:72:30
 step-taken-requires : tie.Need-step-taken-requires
-step-taken-requires c κs = let p = c .before .before .before .before .before .before .before .before .before .before .before .before .before .before .before in
+step-taken-requires c κs = let p = c .before .before .before .before .before .before .before .before .before .before .before .before .before .before .before .before in
     counts (start p .args .s) (shut (opened p) .state)
 
 -- src/steps.rt:47:1
@@ -180,11 +183,11 @@ same-length-3 c = search needs
 returns-5 : tie.Need-returns-5
 unfolding stepAnswer
 returns-5 c = let m = c .before .before .before .before .before .before .before .before .before in
-    let q = m .before .before .before .before .before .before in
+    let q = m .before .before .before .before .before .before .before in
     let p = q .before .before in
     let o = opened p in
     let a = start p .args in
-    let t = rw (line q) at (m .arrive .ensures) in
+    let t = rw (arrived q) at (rw (line q) at (m .arrive .ensures)) in
     let e = turned (a .s) (a .samples .now) (a .sums .now) (length (a .out .now)) (shut o .state) (shut o .closed) (past p) (lent q) in
     let v = sym (t .0) ∙ c .before .before .v .given .1 in
     let r = c .stopped5 .ensures in
@@ -205,11 +208,11 @@ same-length-6 c = search needs
 -- src/steps.rt:47:1
 returns-6 : tie.Need-returns-6
 returns-6 c = let m = c .before .before .before .before .before .before .before .before in
-    let q = m .before .before .before .before .before .before in
+    let q = m .before .before .before .before .before .before .before in
     let p = q .before .before in
     let o = opened p in
     let a = start p .args in
-    let t = rw (line q) at (m .arrive .ensures) in
+    let t = rw (arrived q) at (rw (line q) at (m .arrive .ensures)) in
     let e = turned (a .s) (a .samples .now) (a .sums .now) (length (a .out .now)) (shut o .state) (shut o .closed) (past p) (lent q) in
     let v = sym (t .0) ∙ c .before .enum-told .given .1 in
     let r = c .step-taken .ensures in
@@ -230,6 +233,7 @@ step-spec =
     lent-good-requires
     stopped-requires-4
     returns-4
+    add-number
     sub-arrive
     part-arrive-start
     part-arrive-end

@@ -1,0 +1,10 @@
+pub mod Answered
+pub mod Asked
+pub mod Places
+pub mod Moves
+pub mod Lines
+pub mod Delays
+pub mod Carries
+pub mod Parts
+pub mod Taken
+pub mod Theorems

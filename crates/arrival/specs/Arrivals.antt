@@ -1,0 +1,130 @@
+-- What the arrival of a row does: the step described, on any stores.
+-- Assumes nothing.
+use Prim.Native.Nat.{ℕ, _+_, _-_, _*_, _/_, _%_, _^_}
+use mathlib.Core.Bool.{Bool, cond, _&&_}
+use mathlib.Core.List.{List, _++_}
+use lib.Dec.{leb, ltb, eqb}
+use lib.ListN.{length, getD, drop}
+use lib.IntN.{ℤ, pos, negsuc, _+ℤ_, _-ℤ_, _*ℤ_}
+use Rattle.arith.specs.Sum.{sum, sumℤ}
+use Rattle.arith.specs.All.{all}
+use Rattle.arith.specs.Tab.{tab, grid, paste}
+use Rattle.arith.specs.Floor.{floorDiv}
+use Rattle.layout.specs.declared.Rect.{Rect}
+use Rattle.layout.specs.declared.Table.{Table}
+use Rattle.layout.specs.declared.Verdict.{Verdict}
+use Rattle.layout.specs.declared.Verdict.the-variants.{Accepted, Refused}
+use Rattle.layout.specs.Answers.{ask}
+use Rattle.layout.specs.Contents.{rect}
+use Rattle.layout.specs.Measure.{rowsOf, colsOf, delayOf}
+use Rattle.limits.specs.Limits.{acceptable}
+use Rattle.rule.specs.Questions.{askEach, widthGood}
+use Rattle.rule.specs.Sums.{covered}
+
+-- an arrival: its number, counted from 0, the row that arrives, and the stores that it finds
+pub record Arrival : Type 0 where
+  pub table : Table
+  pub width : ℕ
+  pub number : ℕ
+  pub row : List ℕ
+  pub samples : List ℕ
+  pub sums : List ℕ
+
+-- what arrives with a table, in the code's terms
+abbrev pub arriving : Table → (width number : ℕ) → (row samples sums : List ℕ) → Arrival
+arriving t width number row samples sums =
+    record { table = t; width = width; number = number; row = row; samples = samples; sums = sums }
+
+-- by a verdict: what holds where the call is accepted, and what where it is refused
+abbrev pub by {ℓ} : {A : Type ℓ} → Verdict → (accepted refused : A) → A
+by Accepted x y = x
+by (Refused number place) x y = y
+
+-- row e at column c, at arrival a of a row of l samples: zeros below 0, the arriving row itself, or the one kept from place
+-- (e mod 32)·L on
+unfoldable pub rowAt : (l a : ℕ) → (row samples : List ℕ) → (e : ℤ) → (c : ℕ) → ℕ
+rowAt l a row samples (negsuc e) c = 0
+rowAt l a row samples (pos e) c = cond (eqb e a) (getD row c 0) (getD samples (e % 32 * l + c) 0)
+
+-- the row that an edge reaches: a - D + edge
+unfoldable pub edgeRow : Arrival → (edge : ℤ) → ℤ
+edgeRow v edge = (pos (v .number) -ℤ pos (delayOf (v .table))) +ℤ edge
+
+-- the cut sample that an edge reaches in column c; the leaving and the entering one of a rectangle
+unfoldable pub cutAt : Arrival → (edge : ℤ) → (c : ℕ) → ℕ
+cutAt v edge c = rowAt (v .width) (v .number) (v .row) (v .samples) (edgeRow v edge) c / 2 ^ v .table .q1
+
+abbrev pub leaving : Arrival → (k c : ℕ) → ℕ
+leaving v k c = cutAt v (rect (v .table) k .trailrow) c
+
+abbrev pub entering : Arrival → (k c : ℕ) → ℕ
+entering v k c = cutAt v (rect (v .table) k .leadrow) c
+
+-- rectangle k's stored column sum before its cut, for column c
+unfoldable pub stored : Arrival → (k c : ℕ) → ℕ
+stored v k c = getD (v .sums) (k * v .width + c) 0
+
+-- the sum after the change: the leaving sample off, then the entering one on
+unfoldable pub newSum : Arrival → (k c : ℕ) → ℕ
+newSum v k c = stored v k c - leaving v k c + entering v k c
+
+-- M·(2^(b - q1) - 1), the most that a column sum can be
+unfoldable pub sumMost : Table → Rect → ℕ
+sumMost t d = rowsOf d * (2 ^ (t .b - t .q1) - 1)
+
+-- question 19 of one rectangle and column
+unfoldable pub sumGood : Arrival → (k c : ℕ) → Bool
+sumGood v k c = leb (leaving v k c) (stored v k c) && leb (newSum v k c) (sumMost (v .table) (rect (v .table) k))
+
+-- question 19, place the lowest rectangle
+unfoldable pub arrivalSays : Arrival → Verdict
+arrivalSays v = askEach 19 (v .table .count) (λ k. all (v .width) (sumGood v k)) Accepted
+
+-- question 13: the sample store holds 32·L numbers, and the sum store a number for each rectangle and column
+unfoldable pub storesGood : (l count samples sums : ℕ) → Bool
+storesGood l count samples sums = leb (32 * l) samples && leb (count * l) sums
+
+-- the questions of an arrival before 19, with the length of the output: at most 65,535 rows and 15 steps come before it
+unfoldable pub arrivalAsked : Arrival → (out : ℕ) → Verdict
+arrivalAsked v out =
+    ask 11 (acceptable (v .table))
+    (ask 12 (widthGood (v .width))
+    (ask 16 (leb (v .number) 65550)
+    (ask 17 (eqb (length (v .row)) (v .width))
+    (ask 13 (storesGood (v .width) (v .table .count) (length (v .samples)) (length (v .sums)) && leb (v .width) out) Accepted))))
+
+-- and with 19
+abbrev pub arrivalAnswer : Arrival → (out : ℕ) → Verdict
+arrivalAnswer v out = by (arrivalAsked v out) (arrivalSays v) (arrivalAsked v out)
+
+-- the new column sum of column j, 0 outside the row
+unfoldable pub lineAt : Arrival → (k : ℕ) → (j : ℤ) → ℕ
+lineAt v k (pos j) = cond (ltb j (v .width)) (newSum v k j) 0
+lineAt v k (negsuc j) = 0
+
+-- the window sum of the new column sums, cut
+unfoldable pub windowAt : Arrival → (k c : ℕ) → ℕ
+windowAt v k c =
+    sum (colsOf (rect (v .table) k)) (λ j. lineAt v k (covered (pos c) (rect (v .table) k .trailcol) j) / 2 ^ v .table .q2)
+
+-- and scaled back
+unfoldable pub scaledAt : Arrival → (k c : ℕ) → ℕ
+scaledAt v k c = windowAt v k c / 2 ^ v .table .q3 * 2 ^ (v .table .q1 + v .table .q2 + v .table .q3)
+
+-- the filtered row's pixel of column c
+unfoldable pub pixelAt : Arrival → (c : ℕ) → ℤ
+pixelAt v c = floorDiv (sumℤ (v .table .count) (λ k. rect (v .table) k .weight *ℤ pos (scaledAt v k c))) (v .table .t)
+
+-- ---- what an accepted arrival leaves
+
+-- the arriving row from place (a mod 32)·L on
+unfoldable pub samplesAfter : Arrival → List ℕ
+samplesAfter v = paste (v .number % 32 * v .width) (v .row) (v .samples)
+
+-- rectangle k's sum for column c at k·L + c
+unfoldable pub sumsAfter : Arrival → List ℕ
+sumsAfter v = grid (v .table .count) (v .width) (newSum v) ++ drop (v .table .count * v .width) (v .sums)
+
+-- the filtered row in the first L places, and none while waiting
+unfoldable pub outputAfter : Arrival → List ℤ → List ℤ
+outputAfter v out = cond (ltb (v .number) (delayOf (v .table))) out (tab (v .width) (pixelAt v) ++ drop (v .width) out)
