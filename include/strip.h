@@ -10,7 +10,8 @@
  * What holds of every call:
  *   - It accepts any numbers. Questions are asked in a fixed order, and the first no ends the call with that question's number and a
  *     place. The numbers are in strip_refusal; the place is 0 but for STRIP_SAMPLE and STRIP_SUM.
- *   - A refused call leaves every lent array as it was, and hands the scan back as it was, every byte of its fields.
+ *   - A refused call leaves every lent array as it was, and hands the scan back as it was, every byte of its fields; of
+ *     strip_scan_rows this holds row by row.
  *   - A pointer points to at least as many elements as the length after it says, aligned for its type; where that length is 0 it may be
  *     null. The arrays lent to one call do not overlap.
  *   - It ends, and does not write beyond the elements that its description names.
@@ -70,7 +71,8 @@ typedef enum {
     STRIP_LENGTH = 17,         /* the row has not `width` samples; of strip_pixel: the length is not width times 1 to 65,535 */
     STRIP_SAMPLE = 18,         /* a sample is above 2^b - 1; place: the lowest index of one */
     STRIP_SUM = 19,            /* a column sum that cannot be: a store was altered between calls; place: the lowest rectangle, from 0 */
-    STRIP_OUTSIDE = 20         /* row or column outside the scan */
+    STRIP_OUTSIDE = 20,        /* row or column outside the scan */
+    STRIP_NOT_ROWS = 21        /* the samples handed over together are not whole rows: their number is no multiple of `width` */
 } strip_refusal;
 
 /* The kinds of an answer. */
@@ -152,6 +154,18 @@ typedef struct {
    arrival of row r + D, D the largest lead row of the table or 0: kind is STRIP_ROW with number r, and the first `width` elements of
    out hold the filtered row. Until then kind is STRIP_WAITING and out is not touched. scan: the scan with one row more. */
 strip_answer strip_scan_row(strip_scan scan, const uint16_t *row, size_t k, uint16_t *samples, size_t n, uint32_t *sums, size_t m, int32_t *out, size_t o);
+
+typedef struct {
+    uint32_t refusal, place;
+    size_t taken, filtered;         /* rows taken in, and filtered rows that came out */
+    strip_scan scan;
+} strip_burst;
+
+/* Takes in several rows together: k samples, row after row. Asks 14, 15, 21 (k is no multiple of width), 13 (o below k); then each row
+   as strip_scan_row does, one after the other, with 16, 13 (a store), 18, 19. The filtered rows stand in out one after the other from
+   its start. At a refused row it stops: the `taken` rows before it count, their `filtered` rows stand in out, and refusal and place are
+   those of that row. refusal: 0 where all rows are taken, which is also the answer to no rows. scan: the scan with `taken` rows more. */
+strip_burst strip_scan_rows(strip_scan scan, const uint16_t *rows, size_t k, uint16_t *samples, size_t n, uint32_t *sums, size_t m, int32_t *out, size_t o);
 
 /* A closing step: as a row of zeros, after strip_scan_close. Asks 14, 15 (the scan is not closed); where D steps are past kind is
    STRIP_DONE and nothing changes; then 13, 19. Call it until STRIP_DONE: a scan of H rows has then given H filtered rows. scan: the scan

@@ -1,6 +1,6 @@
 //! The scan engine as the papers have it: its questions, its two stores and its steps, on any state and stores.
 
-use crate::ffi::{Answer, Rect, Scan, Started, Table, DONE, REFUSED, ROW, WAITING};
+use crate::ffi::{Answer, Burst, Rect, Scan, Started, Table, DONE, REFUSED, ROW, WAITING};
 use crate::pixel::{first_above, width_good, MOST_ROWS};
 use crate::table::{accepted, delay, rects, rows};
 
@@ -256,6 +256,51 @@ pub fn row(
         return refused(scan, 18, column);
     }
     arrive(scan, Arrival::Row(row), samples, sums, out)
+}
+
+/// Several rows together: 14, 15, 21, 13; then one by one, each into an output of its own, until one is refused.
+pub fn rows_together(
+    scan: &Scan,
+    rows: &[u16],
+    samples: &mut [u16],
+    sums: &mut [u32],
+    out: &mut [i32],
+) -> Burst {
+    let mut burst = Burst {
+        refusal: 0,
+        place: 0,
+        taken: 0,
+        filtered: 0,
+        scan: *scan,
+    };
+    let asked = |good: bool, number: u32| if good { 0 } else { number };
+    let questions = [
+        asked(agrees(scan), 14),
+        asked(!scan.closed, 15),
+        asked(scan.width != 0 && rows.len() % scan.width == 0, 21),
+        asked(out.len() >= rows.len(), 13),
+    ];
+    if let Some(&number) = questions.iter().find(|&&number| number != 0) {
+        burst.refusal = number;
+        return burst;
+    }
+    for given in rows.chunks(scan.width) {
+        let mut line = vec![0; scan.width];
+        let answer = row(&burst.scan, given, samples, sums, &mut line);
+        if answer.kind == REFUSED {
+            burst.refusal = answer.number;
+            burst.place = answer.place;
+            return burst;
+        }
+        burst.taken += 1;
+        burst.scan = answer.scan;
+        if answer.kind == ROW {
+            let at = burst.filtered * scan.width;
+            out[at..at + scan.width].copy_from_slice(&line);
+            burst.filtered += 1;
+        }
+    }
+    burst
 }
 
 /// A closing step: 14, 15, done where D steps are past, 13, 19.

@@ -77,6 +77,16 @@ pub struct Answer {
 
 #[repr(C)]
 #[derive(Clone, Copy, Debug, PartialEq, Eq)]
+pub struct Burst {
+    pub refusal: u32,
+    pub place: u32,
+    pub taken: usize,
+    pub filtered: usize,
+    pub scan: Scan,
+}
+
+#[repr(C)]
+#[derive(Clone, Copy, Debug, PartialEq, Eq)]
 pub struct PixelAnswer {
     pub refusal: u32,
     pub place: u32,
@@ -107,6 +117,17 @@ extern "C" {
         out: *mut i32,
         o: usize,
     ) -> Answer;
+    fn strip_scan_rows(
+        scan: Scan,
+        rows: *const u16,
+        k: usize,
+        samples: *mut u16,
+        n: usize,
+        sums: *mut u32,
+        m: usize,
+        out: *mut i32,
+        o: usize,
+    ) -> Burst;
     fn strip_scan_step(
         scan: Scan,
         samples: *mut u16,
@@ -186,6 +207,28 @@ pub fn scan_row(
             *scan,
             lent(row),
             row.len(),
+            lent_mut(samples),
+            samples.len(),
+            lent_mut(sums),
+            sums.len(),
+            lent_mut(out),
+            out.len(),
+        )
+    }
+}
+
+pub fn scan_rows(
+    scan: &Scan,
+    rows: &[u16],
+    samples: &mut [u16],
+    sums: &mut [u32],
+    out: &mut [i32],
+) -> Burst {
+    unsafe {
+        strip_scan_rows(
+            *scan,
+            lent(rows),
+            rows.len(),
             lent_mut(samples),
             samples.len(),
             lent_mut(sums),

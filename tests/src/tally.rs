@@ -7,19 +7,20 @@ use std::fmt::Debug;
 pub type Outcome = Result<(), String>;
 
 /// The numbers that each call can answer, 0 being acceptance; every one has to be met.
-const NUMBERS: [(&str, &[u32]); 8] = [
+const NUMBERS: [(&str, &[u32]); 9] = [
     ("check", &[0, 1, 2, 3, 4, 5, 6, 7, 8, 9, 10]),
     ("load", &[0, 1, 2, 3, 4, 5, 6, 7, 8, 9, 10]),
     ("write", &[0, 11, 13]),
     ("start", &[0, 11, 12, 13]),
     ("row", &[0, 14, 15, 16, 17, 13, 18, 19]),
+    ("rows", &[0, 14, 15, 21, 13, 16, 18, 19]),
     ("close", &[0, 14, 15]),
     ("step", &[0, 14, 15, 13, 19]),
     ("pixel", &[0, 11, 12, 17, 20, 18]),
 ];
 
 /// Situations that have to come up.
-const SIGHTS: [&str; 33] = [
+const SIGHTS: [&str; 38] = [
     "10 just passed",
     "10 just missed",
     "sixteen rectangles loaded",
@@ -53,6 +54,11 @@ const SIGHTS: [&str; 33] = [
     "old state again",
     "arrival past 65535",
     "65535 rows given",
+    "burst of no rows",
+    "burst whole",
+    "burst refused in the middle",
+    "burst packed behind waiting",
+    "burst too long for its output",
 ];
 
 #[derive(Default)]
@@ -97,7 +103,7 @@ impl Tally {
                 .collect();
             println!("{call:<6} answered {}", list.join(", "));
         }
-        let list: Vec<String> = (1..=20).map(|n| format!("{n}: {}", self.met(n))).collect();
+        let list: Vec<String> = (1..=21).map(|n| format!("{n}: {}", self.met(n))).collect();
         println!("refusals {}", list.join(", "));
         for (what, times) in &self.sights {
             println!("{what:<29} {times}");
@@ -119,7 +125,7 @@ impl Tally {
                 .filter(|n| !self.numbers.contains_key(&(call, **n)));
             list.extend(absent.map(|n| format!("{call} never answered {n}")));
         }
-        let absent = (1..=20).filter(|n| self.met(*n) == 0);
+        let absent = (1..=21).filter(|n| self.met(*n) == 0);
         list.extend(absent.map(|n| format!("refusal {n} never met")));
         let absent = SIGHTS.iter().filter(|s| !self.sights.contains_key(*s));
         list.extend(absent.map(|s| format!("never came up: {s}")));

@@ -3,7 +3,7 @@
 use std::fmt::Debug;
 
 use crate::engine::{self, KEPT};
-use crate::ffi::{self, Answer, Scan, Started, Table, DONE, REFUSED, ROW, WAITING};
+use crate::ffi::{self, Answer, Burst, Scan, Started, Table, DONE, REFUSED, ROW, WAITING};
 use crate::rng::Rng;
 use crate::tally::{same, Outcome, Tally};
 
@@ -97,7 +97,19 @@ pub struct Bench<'a> {
 impl<'a> Bench<'a> {
     /// Stores with room for `count` rectangles at `width`, often a little more, and dirt in them.
     pub fn new(rng: &mut Rng, tally: &'a mut Tally, count: usize, width: usize) -> Bench<'a> {
-        let needed = Lengths::needed(count, width);
+        Bench::with_rows(rng, tally, count, width, 1)
+    }
+
+    /// The same with an output of so many rows.
+    pub fn with_rows(
+        rng: &mut Rng,
+        tally: &'a mut Tally,
+        count: usize,
+        width: usize,
+        rows: usize,
+    ) -> Bench<'a> {
+        let mut needed = Lengths::needed(count, width);
+        needed.out = rows * width;
         let mut extra = || rng.pick(&[0, 0, 1, 5]);
         let (i, j, k) = (extra(), extra(), extra());
         let world = World {
@@ -204,6 +216,22 @@ impl<'a> Bench<'a> {
         self.agree("row", &library, &papers)?;
         self.tally.saw_if("row out", papers.kind == ROW);
         self.tally.saw_if("waiting", papers.kind == WAITING);
+        Ok(papers)
+    }
+
+    pub fn rows(&mut self, scan: &Scan, rows: &[u16]) -> Result<Burst, String> {
+        let w = &mut self.library;
+        let library = ffi::scan_rows(scan, rows, w.samples.part(), w.sums.part(), w.out.part());
+        if library.taken == 0 {
+            self.untouched("rows")?;
+            same("state after no row", &library.scan, scan)?;
+        }
+        let w = &mut self.papers;
+        let (samples, sums, out) = (w.samples.part(), w.sums.part(), w.out.part());
+        let papers = engine::rows_together(scan, rows, samples, sums, out);
+        same("rows", &library, &papers)?;
+        self.equal_after("rows")?;
+        self.tally.answered("rows", papers.refusal);
         Ok(papers)
     }
 

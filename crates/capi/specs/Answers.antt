@@ -17,6 +17,7 @@ use Rattle.scan.specs.declared.Closing.{Closing}
 use Rattle.scan.specs.declared.Closing.the-variants.{Row as LateRow, Waiting as StillWaiting, Done, Refused as StepRefused}
 use Rattle.arrival.specs.Arrivals.{by}
 use Rattle.scan.specs.Calls.{byTurn, startSays, startScan, closeSays, shut, rowSays, rowAnswer, rowIn, stepTurn, stepAnswer, stepIn}
+use Rattle.burst.specs.Bursts.{Outcome}
 use Rattle.pixel.specs.declared.Found.{Found}
 use Rattle.pixel.specs.declared.Found.the-variants.{Pixel, Refused as NoPixel}
 use Rattle.pixel.specs.Call.{pixelAnswer}
@@ -24,6 +25,7 @@ use Rattle.capi.specs.declared.tables.TableLoaded.{TableLoaded}
 use Rattle.capi.specs.declared.tables.TableWritten.{TableWritten}
 use Rattle.capi.specs.declared.scans.ScanStarted.{ScanStarted}
 use Rattle.capi.specs.declared.scans.ScanAnswer.{ScanAnswer}
+use Rattle.capi.specs.declared.bursts.BurstAnswer.{BurstAnswer}
 use Rattle.capi.specs.declared.pixels.PixelAnswer.{PixelAnswer}
 
 -- ---- each answer as C has it: refusal 0 and place 0 where the call accepted
@@ -56,6 +58,11 @@ stepC StillWaiting s = record { kind = 2; number = 0; place = 0; scan = s }
 stepC Done s = record { kind = 3; number = 0; place = 0; scan = s }
 stepC (StepRefused number place) s = record { kind = 0; number = number; place = place; scan = s }
 
+-- a burst: the rows taken and the filtered rows that came out, and the refusal of the row where it stops
+abbrev pub burstC : Verdict → (taken filtered : ℕ) → Scan → BurstAnswer
+burstC Accepted taken filtered s = record { refusal = 0; place = 0; taken = taken; filtered = filtered; scan = s }
+burstC (Refused number place) taken filtered s = record { refusal = number; place = place; taken = taken; filtered = filtered; scan = s }
+
 -- a pixel; value 0 beside a refusal
 abbrev pub pixelC : Found → PixelAnswer
 pixelC (Pixel p) = record { refusal = 0; place = 0; value = p }
@@ -87,6 +94,10 @@ rowInC s row samples sums out = rowC (rowAnswer s (rowSays s row samples sums ou
 abbrev pub stepInC : Scan → (samples sums : List ℕ) → (out : ℕ) → ScanAnswer
 stepInC s samples sums out =
     stepC (stepAnswer s (stepTurn s samples sums out)) (byTurn (stepTurn s samples sums out) (stepIn s) s)
+
+-- several rows together: the scan with the rows taken
+abbrev pub rowsC : Outcome → BurstAnswer
+rowsC o = burstC (o .verdict) (o .progress .taken) (o .progress .filtered) (o .progress .scan)
 
 -- the pixel at a place of a lent scan
 abbrev pub pixelAtC : Table → (l : ℕ) → (samples : List ℕ) → (r c : ℕ) → PixelAnswer

@@ -1,8 +1,10 @@
 // The library for C: each call of the header include/strip.h, over the proved call that does the work.
+mod bursts;
 mod pixels;
 mod scans;
 mod tables;
 
+pub use bursts::strip_scan_rows;
 pub use pixels::strip_pixel;
 pub use scans::strip_scan_close;
 pub use scans::strip_scan_row;

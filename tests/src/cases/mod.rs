@@ -1,6 +1,7 @@
 //! The kinds of case, and how many of each are run.
 
 mod altered;
+mod bursts;
 mod files;
 mod long;
 mod pixels;
@@ -28,7 +29,7 @@ const fn kind(
 }
 
 /// Cases are numbered through in this order.
-pub const KINDS: [Kind; 15] = [
+pub const KINDS: [Kind; 16] = [
     kind("strips of the paper", strips::COUNT, strips::case),
     kind("files at the limits", 60_000, files::limits),
     kind("files at question 10", 10_000, files::question_10),
@@ -41,6 +42,7 @@ pub const KINDS: [Kind; 15] = [
     kind("scans", 30_000, scans::small),
     kind("scans of wide rows", 300, scans::wide),
     kind("altered stores", 20_000, altered::case),
+    kind("bursts of rows", 20_000, bursts::case),
     kind("states by hand", 30_000, states::any),
     kind("states near the last row", 4_000, states::near_the_end),
     kind("scans past the last row", 3, long::case),

@@ -1,0 +1,61 @@
+// Several rows of a scan handed over together, for C.
+ghost use mathlib.Core.Path.{_≡_};
+ghost use Rattle.burst.specs.Bursts.{burstOf};
+ghost use Rattle.capi.specs.Answers.{burstC, rowsC};
+use burst::Burst;
+use burst::rows;
+use layout::Verdict;
+use scan::Scan;
+
+// strip_burst
+#[repr(C)]
+pub struct BurstAnswer {
+    pub refusal: u32,
+    pub place: u32,
+    pub taken: usize,
+    pub filtered: usize,
+    pub scan: Scan,
+}
+
+// A strip_burst of these parts.
+fn burst_of(refusal: u32, place: u32, taken: usize, filtered: usize, scan: Scan) -> BurstAnswer
+    ensures { λ r. ⌜ r ≡ record { refusal = refusal; place = place; taken = taken; filtered = filtered; scan = scan } ⌝ }
+{
+    BurstAnswer {
+        refusal,
+        place,
+        taken,
+        filtered,
+        scan,
+    }
+}
+
+// What a burst comes to, as C has it.
+fn handed(b: Burst) -> BurstAnswer
+    ensures { λ r. ⌜ r ≡ burstC (b .verdict) (b .taken) (b .filtered) (b .scan) ⌝ }
+{
+    let v = b.verdict;
+    let scan = b.scan;
+    match v {
+        Verdict::Refused(number, place) => burst_of(number, place, b.taken, b.filtered, scan),
+        Verdict::Accepted => burst_of(0, 0, b.taken, b.filtered, scan),
+    }
+}
+
+// How many rows were taken and how many filtered rows came out, the refusal of the row where they stop, and the scan after
+// them.
+#[no_mangle]
+pub extern "C" fn strip_scan_rows(
+    scan: Scan,
+    lines: &[u16],
+    samples: &mut [u16],
+    sums: &mut [u32],
+    out: &mut [i32],
+) -> BurstAnswer
+    ensures { λ r. ⌜ r ≡ rowsC (burstOf scan (now (lines .entry)) (now (samples .entry)) (now (sums .entry)) (now (out .entry))) ⌝ }
+    ensures { λ _. ⌜ now (samples .exit) ≡ burstOf scan (now (lines .entry)) (now (samples .entry)) (now (sums .entry)) (now (out .entry)) .progress .samples ⌝ }
+    ensures { λ _. ⌜ now (sums .exit) ≡ burstOf scan (now (lines .entry)) (now (samples .entry)) (now (sums .entry)) (now (out .entry)) .progress .sums ⌝ }
+    ensures { λ _. ⌜ now (out .exit) ≡ burstOf scan (now (lines .entry)) (now (samples .entry)) (now (sums .entry)) (now (out .entry)) .progress .out ⌝ }
+{
+    handed(rows(scan, lines, samples, sums, out))
+}
