@@ -10,6 +10,7 @@ use layout::Verdict;
 pub use rows::row;
 pub use starts::close;
 pub use starts::start;
+pub use state::state_good;
 pub use steps::step;
 
 // A scan: its table and width, the rows that came in, the closing steps done, and whether it is closed.

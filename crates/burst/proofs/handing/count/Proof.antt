@@ -1,0 +1,59 @@
+use native.Mathlib.Nat.{add-zero}
+use mathlib.Core.Path.{refl}
+use borrow.Author.Needs.{needs}
+use Rattle.burst.proofs.handing.count.Statement.{statement}
+use Rattle.burst.proofs.handing.count.Tie as tie
+use Rattle.burst.proofs.handing.count.Reads as reads
+use Rattle.burst.proofs.handing.count.Lts as lts
+
+-- src/handing.rt:55:22
+enum-told : tie.Need-enum-told
+enum-told c = search needs
+
+-- src/handing.rt:56:20
+add-t9 : tie.Need-add-t9
+add-t9 c = search needs
+
+-- src/handing.rt:57:23
+add-t10 : tie.Need-add-t10
+add-t10 c = search needs
+
+-- src/handing.rt:61:22
+enum-told-2 : tie.Need-enum-told-2
+enum-told-2 c = search needs
+
+-- src/handing.rt:62:20
+add-t12 : tie.Need-add-t12
+add-t12 c = search needs
+
+-- src/handing.rt:66:25
+enum-known-answer : tie.Need-enum-known-answer
+enum-known-answer c = search needs
+
+-- src/handing.rt:47:1
+returns : tie.Need-returns
+returns c = rw (c .before .before .enum-told .given .1) refl
+
+-- src/handing.rt:47:1
+returns-2 : tie.Need-returns-2
+returns-2 c = let b = c .before .before .before .before .args .b in
+    rw (c .before .enum-told2 .given .1, add-zero (b .filtered)) refl
+
+-- src/handing.rt:47:1
+returns-3 : tie.Need-returns-3
+returns-3 c = let b = c .before .before .before .before .args .b in
+    rw (c .before .answer .given .1, add-zero (b .taken), add-zero (b .filtered)) refl
+
+pub count-spec : {M : Type 1} → statement M
+count-spec =
+    tie.close
+    (tie.spec
+    enum-told
+    add-t9
+    add-t10
+    enum-told-2
+    add-t12
+    enum-known-answer
+    returns
+    returns-2
+    returns-3)

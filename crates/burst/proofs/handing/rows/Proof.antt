@@ -1,0 +1,92 @@
+use Rattle.layout.specs.declared.Verdict.the-variants.{Accepted}
+use Rattle.burst.specs.Bursts.{burstAsked, burstOf}
+use Rattle.burst.proofs.Entries.{Entered, entered, rows-in, rows-out, none-taken}
+use lib.ListN.{length}
+use mathlib.Core.Path.{_≡_, refl, sym, _∙_}
+use borrow.Author.Needs.{needs}
+use Rattle.burst.proofs.handing.rows.Statement.{statement}
+use Rattle.burst.proofs.handing.rows.Tie as tie
+use Rattle.burst.proofs.handing.rows.Reads as reads
+use Rattle.burst.proofs.handing.rows.Lts as lts
+use Rattle.burst.proofs.handing.asked.Reads as asked-reads
+use Rattle.burst.proofs.handing.begun.Reads as begun-reads
+use Rattle.burst.proofs.handing.each.Reads as each-reads
+
+-- the questions are answered yes
+abbrev start : tie.After-enum-told2 → tie.Start
+start c = c .before .before .before .before .before .before
+
+accepted : (c : tie.After-enum-told2) → burstAsked (start c .args .s) (length (start c .args .rows .now)) (length (start c .args .out .now)) ≡ Accepted
+accepted c = sym (c .before .before .asked .ensures) ∙ c .enum-told2 .given .1
+
+enters : (c : tie.After-enum-told2) → Entered (start c .args .s) (length (start c .args .rows .now)) (length (start c .args .out .now))
+enters c = entered _ _ _ (accepted c)
+
+-- src/handing.rt:118:9
+asked-requires : tie.Need-asked-requires
+asked-requires c κs = search needs
+
+-- src/handing.rt:120:35
+enum-told : tie.Need-enum-told
+enum-told c = search needs
+
+-- src/handing.rt:120:35
+begun-requires : tie.Need-begun-requires
+begun-requires c κs = search needs
+
+-- src/handing.rt:122:21
+enum-told-2 : tie.Need-enum-told-2
+enum-told-2 c = search needs
+
+-- src/handing.rt:122:21
+div-n : tie.Need-div-n
+div-n c = enters (c .before) .width-least
+
+-- src/handing.rt:123:13
+each-requires : tie.Need-each-requires
+each-requires c κs = let m = c .before .before .before .before in
+    let h = enters m in
+    (rows-in (start m .args .s) (length (start m .args .rows .now)), rows-out _ _ _ h, h .rows-most, h .width-most)
+
+-- src/handing.rt:112:1
+returns : tie.Need-returns
+unfolding burstOf
+returns c = let r = sym (c .before .before .before .asked .ensures) ∙ c .before .enum-told .given .1 in
+    let e = c .begun .ensures in
+    (rw r (none-taken (c .begun .result) _ _ (e .0 ∙ c .before .enum-told .given .1) (e .1) (e .2) (e .3)), (rw r refl, (rw r refl, rw r refl)))
+
+-- src/handing.rt:112:1
+same-length : tie.Need-same-length
+same-length c = search needs
+
+-- src/handing.rt:112:1
+same-length-2 : tie.Need-same-length-2
+same-length-2 c = search needs
+
+-- src/handing.rt:112:1
+same-length-3 : tie.Need-same-length-3
+same-length-3 c = search needs
+
+-- src/handing.rt:112:1
+returns-2 : tie.Need-returns-2
+unfolding burstOf
+returns-2 c = let m = c .before .before .before .before .before in
+    let r = accepted (m .before .before .before .before .before) in
+    let e = m .each .ensures in
+    (rw r (e .0), (rw r (e .1 .0), (rw r (e .1 .1 .0), rw r (e .1 .1 .1))))
+
+pub rows-spec : {M : Type 1} → statement M
+rows-spec =
+    tie.close
+    (tie.spec
+    asked-requires
+    enum-told
+    begun-requires
+    enum-told-2
+    div-n
+    each-requires
+    returns
+    same-length
+    same-length-2
+    same-length-3
+    returns-2)
