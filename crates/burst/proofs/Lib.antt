@@ -1,3 +1,4 @@
 pub mod Parts
 pub mod Rests
 pub mod Entries
+pub mod Theorems

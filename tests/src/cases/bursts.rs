@@ -59,7 +59,7 @@ fn faulty(rng: &mut Rng, bench: &mut Bench, scan: &Scan) -> Result<Scan, String>
         "burst too long for its output",
         burst.refusal == 13 && lengths.out < given.len(),
     );
-    note(bench.tally, &state, given.len() / width, &burst);
+    note(bench.tally, scan, given.len() / width, &burst);
     bench.lend(lent);
     Ok(if state == *scan { burst.scan } else { *scan })
 }
