@@ -1,29 +1,14 @@
--- One row of a burst: what the call of the row leaves is the burst with one row more, or as it was.
+-- Parts of a list that are lent and come back, and lists pasted one after the other.
 -- Assumes nothing.
-use Prim.Native.Nat.{ℕ, zero, suc, _+_, _-_, _*_, _≤_, _<_}
+use Prim.Native.Nat.{ℕ, _+_, _-_, _≤_}
 use native.Mathlib.Nat.{add-zero}
 use native.Mathlib.Omega.{arith}
-use mathlib.Core.Path.{_≡_, refl, sym, ap, subst, _∙_}
-use mathlib.Core.Bool.{Bool, true, false, cond}
-use mathlib.Core.List.{List, _++_, append-assoc}
-use lib.Dec.{ltb}
-use lib.IntN.{ℤ}
-use lib.ListN.{length, take, drop, length-drop, take-append-drop}
-use lib.Seq.{drop-drop, length-take-le, take-add}
+use mathlib.Core.Path.{_≡_, sym, ap, ap₂, _∙_}
+use mathlib.Core.List.{List, [], _++_, append-assoc, append-nil}
+use lib.ListN.{length, take, drop, length-drop, length-append, take-append-drop}
+use lib.Seq.{drop-drop, length-take-le, take-add, take-at, drop-at}
 use borrow.Rule.Slice.PartMut.{putMid}
 use Rattle.arith.specs.Tab.{paste}
-use Rattle.layout.specs.declared.Verdict.{Verdict}
-use Rattle.layout.specs.declared.Verdict.the-variants.{Accepted, Refused}
-use Rattle.layout.specs.Measure.{delayOf}
-use Rattle.arrival.specs.Arrivals.{by, samplesAfter, sumsAfter, outputAfter}
-use Rattle.scan.specs.declared.Scan.{Scan}
-use Rattle.scan.specs.declared.Answer.{Answer}
-use Rattle.scan.specs.declared.Answer.the-variants.{Row, Waiting, Refused as RowRefused}
-use Rattle.scan.specs.Calls.{arrivalOf, rowSays, rowAnswer, answerRow, rowIn}
-use Rattle.burst.specs.declared.Burst.{Burst}
-use Rattle.burst.specs.Bursts.{Progress, noneTaken, nextRow, nextOut, nextSays, nextArrival, oneMore, Outcome, ends, give, rowVerdict, counted}
-
--- ---- parts
 
 module _ {A : Type 0} (p l : ℕ) (xs : List A) where
   -- `&s[p..p + l]` is l places from p on
@@ -45,58 +30,31 @@ module _ {A : Type 0} (p l : ℕ) (xs : List A) where
   unfolding paste
   paste-own h = rw (part-long h, sym (take-add p l xs)) (take-append-drop (p + l) xs)
 
--- ---- one row
+module _ {A : Type 0} (p : ℕ) (xs zs : List A) (h : p + length xs ≤ length zs) where
+  front : length (take p zs ++ xs) ≡ p + length xs
+  front = length-append (take p zs) xs ∙ ap (λ k. k + length xs) (length-take-le p zs (omega arith))
 
--- a burst part way: its answer so far, with the stores and the output
-abbrev pub partWay : Burst → (samples sums : List ℕ) → List ℤ → Progress
-partWay b samples sums out =
-    record { scan = b .scan; samples = samples; sums = sums; out = out; taken = b .taken; filtered = b .filtered }
+  pub paste-length : length (paste p xs zs) ≡ length zs
+  unfolding paste
+  paste-length =
+      let a = length-append (take p zs ++ xs) (drop (p + length xs) zs) in
+      let b = length-drop (p + length xs) zs in
+      let c = front in omega arith
 
--- what the call of a row tells
-pub record Told (s : Scan) (samples sums : List ℕ) (row : List ℕ) (out : List ℤ) (a : Answer) (s′ : Scan) (samples′ sums′ : List ℕ) (out′ : List ℤ) : Type 0 where
-  pub answer-is : a ≡ rowAnswer s (rowSays s row samples sums (length out))
-  pub scan-is : s′ ≡ by (rowSays s row samples sums (length out)) (rowIn s) s
-  pub samples-is : samples′ ≡ by (rowSays s row samples sums (length out)) (samplesAfter (arrivalOf s row samples sums)) samples
-  pub sums-is : sums′ ≡ by (rowSays s row samples sums (length out)) (sumsAfter (arrivalOf s row samples sums)) sums
-  pub out-is : out′ ≡ by (rowSays s row samples sums (length out)) (outputAfter (arrivalOf s row samples sums) out) out
+  -- one part after the other
+  pub paste-more : (ys : List A) → paste (p + length xs) ys (paste p xs zs) ≡ paste p (xs ++ ys) zs
+  unfolding paste
+  paste-more ys =
+      let n = p + length xs in
+      let rest = drop n zs in
+      let b : drop (n + length ys) (take p zs ++ xs ++ rest) ≡ drop (n + length ys) zs =
+      sym (drop-drop (length ys) n (take p zs ++ xs ++ rest)) ∙ ap (drop (length ys)) (drop-at (take p zs ++ xs) rest n front) ∙ drop-drop (length ys) n zs in
+      let f = length-append xs ys in
+      let c : n + length ys ≡ p + length (xs ++ ys) = omega arith in
+      ap₂ (λ f d. f ++ ys ++ d) (take-at (take p zs ++ xs) rest n front) b
+      ∙ ap (λ f. f ++ drop (n + length ys) zs) (append-assoc (take p zs) xs ys)
+      ∙ ap (λ k. take p zs ++ (xs ++ ys) ++ drop k zs) c
 
--- a row's answer has the verdict on it
-pub verdict-back : (s : Scan) (v : Verdict) → rowVerdict (rowAnswer s v) ≡ v
-unfolding rowAnswer
-verdict-back s Accepted = go (ltb (s .rows + s .steps) (delayOf (s .table)))
-  where
-    go : (b : Bool) → rowVerdict (cond b Waiting (Row (s .rows + s .steps - delayOf (s .table)))) ≡ Accepted
-    go true = refl
-    go false = refl
-verdict-back s (Refused number place) = refl
-
--- at most one filtered row comes out
-pub row-most : (a : Answer) → length (answerRow a) ≤ 1
-row-most (Row r) = omega arith
-row-most Waiting = omega arith
-row-most (RowRefused number place) = omega arith
-
-module _ (b : Burst) (samples sums : List ℕ) (out : List ℤ) (rows : List ℕ) where
-  abbrev here : Progress
-  here = partWay b samples sums out
-
-  abbrev Lent : Answer → Scan → (samples sums : List ℕ) → List ℤ → Type 0
-  Lent a s′ samples′ sums′ out′ = Told (b .scan) samples sums (nextRow here rows) (nextOut here) a s′ samples′ sums′ out′
-
-  pub handed : (a : Answer) (s′ : Scan) (samples′ sums′ : List ℕ) (out′ : List ℤ) → Lent a s′ samples′ sums′ out′
-      → b .filtered * b .scan .width + b .scan .width ≤ length out
-      → partWay (counted b a s′) samples′ sums′ (paste (b .filtered * b .scan .width) out′ out) ≡ by (nextSays here rows) (oneMore here rows) here
-  unfolding oneMore rowAnswer
-  handed a s′ samples′ sums′ out′ t room =
-      rw (t .answer-is, t .scan-is, t .samples-is, t .sums-is, t .out-is) (go (nextSays here rows))
-    where
-      go : (v : Verdict) → partWay (counted b (rowAnswer (b .scan) v) (by v (rowIn (b .scan)) (b .scan)))
-          (by v (samplesAfter (nextArrival here rows)) samples) (by v (sumsAfter (nextArrival here rows)) sums)
-          (paste (b .filtered * b .scan .width) (by v (outputAfter (nextArrival here rows) (nextOut here)) (nextOut here)) out)
-          ≡ by v (oneMore here rows) here
-      go Accepted = rw (verdict-back (b .scan) Accepted) refl
-      go (Refused number place) =
-          rw (add-zero (b .taken), add-zero (b .filtered), paste-own (b .filtered * b .scan .width) (b .scan .width) out room) refl
-
-  pub verdict-is : (a : Answer) (s′ : Scan) (samples′ sums′ : List ℕ) (out′ : List ℤ) → Lent a s′ samples′ sums′ out′ → rowVerdict a ≡ nextSays here rows
-  verdict-is a s′ samples′ sums′ out′ t = ap rowVerdict (t .answer-is) ∙ verdict-back (b .scan) (nextSays here rows)
+pub paste-none : {A : Type 0} (p : ℕ) (zs : List A) → paste p [] zs ≡ zs
+unfolding paste
+paste-none p zs = rw (append-nil (take p zs), add-zero p) (take-append-drop p zs)

@@ -1,6 +1,6 @@
 -- The rows of a burst that are still to be given: what they come to from here is what the burst comes to.
 -- Assumes nothing.
-use Prim.Native.Nat.{ℕ, zero, suc, _+_, _-_, _*_, _≤_, _<_, zero-le}
+use Prim.Native.Nat.{ℕ, suc, _+_, _-_, _*_, _≤_, _<_}
 use native.Mathlib.Nat.{le-refl, mul-le-mul}
 use native.Mathlib.Omega.{arith}
 use mathlib.Core.Path.{_≡_, refl, sym, ap, subst, _∙_}
@@ -17,7 +17,7 @@ use Rattle.scan.specs.declared.Scan.{Scan}
 use Rattle.scan.specs.Calls.{agrees, rowAsked, rowSays, rowAnswer}
 use Rattle.limits.proofs.Asked.{ask-accepted}
 use Rattle.burst.specs.Bursts.{Progress, noneTaken, nextRow, nextOut, nextSays, oneMore, Outcome, ends, give}
-use Rattle.burst.proofs.Parts.{row-most}
+use Rattle.burst.proofs.OneRow.{row-most}
 
 -- a verdict that is a refusal, and one that is not
 pub refused : (v : Verdict) → by v false true ≡ true → {A : Type 0} (x y : A) → by v x y ≡ y

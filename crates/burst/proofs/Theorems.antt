@@ -1,15 +1,15 @@
--- A burst equals its rows given one by one: demand of request M-100.
+-- A burst equals its rows given one by one.
 -- Assumes nothing.
 use Prim.Native.Nat.{ℕ, zero, suc, _+_, _-_, _*_, _/_, _≤_, _<_}
 use native.Mathlib.Nat.{add-zero, zero-div, div-add-mod, le-of-eq, le-trans, mul-le-mul, le-refl}
 use native.Mathlib.Omega.{arith}
 use mathlib.Core.Path.{_≡_, refl, sym, ap, ap₂, subst, _∙_}
 use mathlib.Core.Bool.{Bool, true, false, cond}
-use mathlib.Core.List.{List, [], _∷_, _++_, append-assoc, append-nil}
+use mathlib.Core.List.{List, [], _++_, append-nil}
 use lib.Dec.{T, ltb}
 use lib.IntN.{ℤ}
-use lib.ListN.{length, take, drop, length-drop, length-append, drop-of-length-le, take-append-drop}
-use lib.Seq.{drop-drop, length-take-le, take-at, drop-at}
+use lib.ListN.{length, take, drop, drop-of-length-le}
+use lib.Seq.{length-take-le, take-at}
 use borrow.Author.Tests.{le-leb}
 use Rattle.arith.specs.Tab.{tab, paste}
 use Rattle.arith.proofs.Tabs.{length-tab}
@@ -22,11 +22,12 @@ use Rattle.scan.specs.declared.Scan.{Scan}
 use Rattle.scan.specs.declared.Answer.{Answer}
 use Rattle.scan.specs.declared.Answer.the-variants.{Row, Waiting, Refused as RowRefused}
 use Rattle.scan.specs.Calls.{rowAsked, rowSays, rowAnswer, answerRow}
-use Rattle.run.specs.Runs.{World, rowCall, Reply, refused, rowReply, after, reply, run, ended}
+use Rattle.run.specs.Runs.{rowCall, Reply, refused, rowReply, after, reply, run, ended}
 use Rattle.burst.specs.Bursts.{Progress, noneTaken, nextRow, nextOut, nextSays, nextArrival, oneMore, Outcome, ends, give, burstAsked, burstOf}
 use Rattle.burst.specs.OneByOne.{worldOf, rowsFrom, pixelsOf, countOf, comeOut, howMany}
 use Rattle.burst.proofs.Entries.{entered, rows-out}
-use Rattle.burst.proofs.Parts.{part-long, paste-own, row-most}
+use Rattle.burst.proofs.OneRow.{row-most}
+use Rattle.burst.proofs.Parts.{part-long, paste-own, paste-length, paste-more, paste-none}
 
 -- ---- refusals, and no rows
 
@@ -67,37 +68,6 @@ stops (suc n) p rows number place e = go (stops n (oneMore p rows) rows number p
         record { k = suc (i .k); before = omega arith; left = i .left; takes = rw y (i .takes); refuses = i .refuses; stands = rw y (i .stands) }
     go later (Refused a b) y f =
         record { k = 0; before = omega arith; left = p; takes = refl; refuses = y ∙ f; stands = rw y (ap (λ v. ends v p) f) }
-
--- ---- packing
-
-module _ {A : Type 0} (p : ℕ) (xs zs : List A) (h : p + length xs ≤ length zs) where
-  front : length (take p zs ++ xs) ≡ p + length xs
-  front = length-append (take p zs) xs ∙ ap (λ k. k + length xs) (length-take-le p zs (omega arith))
-
-  pub paste-length : length (paste p xs zs) ≡ length zs
-  unfolding paste
-  paste-length =
-      let a = length-append (take p zs ++ xs) (drop (p + length xs) zs) in
-      let b = length-drop (p + length xs) zs in
-      let c = front in omega arith
-
-  -- one part after the other
-  pub paste-more : (ys : List A) → paste (p + length xs) ys (paste p xs zs) ≡ paste p (xs ++ ys) zs
-  unfolding paste
-  paste-more ys =
-      let n = p + length xs in
-      let rest = drop n zs in
-      let b : drop (n + length ys) (take p zs ++ xs ++ rest) ≡ drop (n + length ys) zs =
-      sym (drop-drop (length ys) n (take p zs ++ xs ++ rest)) ∙ ap (drop (length ys)) (drop-at (take p zs ++ xs) rest n front) ∙ drop-drop (length ys) n zs in
-      let f = length-append xs ys in
-      let c : n + length ys ≡ p + length (xs ++ ys) = omega arith in
-      ap₂ (λ f d. f ++ ys ++ d) (take-at (take p zs ++ xs) rest n front) b
-      ∙ ap (λ f. f ++ drop (n + length ys) zs) (append-assoc (take p zs) xs ys)
-      ∙ ap (λ k. take p zs ++ (xs ++ ys) ++ drop k zs) c
-
-paste-none : {A : Type 0} (p : ℕ) (zs : List A) → paste p [] zs ≡ zs
-unfolding paste
-paste-none p zs = rw (append-nil (take p zs), add-zero p) (take-append-drop p zs)
 
 -- ---- one row, in a burst and alone
 

@@ -1,7 +1,7 @@
 -- A burst: several rows given in one call.
 -- Assumes nothing.
 use Prim.Native.Nat.{ℕ, zero, suc, _+_, _*_, _/_, _%_}
-use mathlib.Core.Bool.{Bool, true, false, not}
+use mathlib.Core.Bool.{not}
 use mathlib.Core.List.{List}
 use lib.Dec.{leb, eqb}
 use lib.ListN.{length, take, drop}
@@ -45,6 +45,7 @@ nextOut p = take (p .scan .width) (drop (p .filtered * p .scan .width) (p .out))
 abbrev pub nextSays : Progress → (rows : List ℕ) → Verdict
 nextSays p rows = rowSays (p .scan) (nextRow p rows) (p .samples) (p .sums) (length (nextOut p))
 
+-- what arrives with it
 abbrev pub nextArrival : Progress → (rows : List ℕ) → Arrival
 nextArrival p rows = arrivalOf (p .scan) (nextRow p rows) (p .samples) (p .sums)
 
@@ -62,7 +63,7 @@ oneMore p rows =
 
 -- ---- a burst
 
--- what rows come to: the verdict, which is that on the row where they stop, or accepted, and what the rows before it left
+-- what a burst comes to: accepted, or the refusal where it stops, and what the rows before that left
 pub record Outcome : Type 0 where
   pub verdict : Verdict
   pub progress : Progress
@@ -93,13 +94,13 @@ answerOf o =
 
 -- ---- a row's answer in a burst
 
--- whether a row was taken, as a verdict and as a count
+-- a row's answer as a verdict: accepted where the row was taken, whether a filtered row is out or none is due yet
 abbrev pub rowVerdict : Answer → Verdict
 rowVerdict (Row r) = Accepted
 rowVerdict Waiting = Accepted
 rowVerdict (RowRefused number place) = Refused number place
 
--- a burst with one row's answer counted
+-- a burst's answer with one row's counted in, and the scan after that row
 abbrev pub counted : Burst → Answer → Scan → Burst
 counted b a s =
     record {

@@ -6,8 +6,8 @@ pub use handing::rows;
 use layout::Verdict;
 use scan::Scan;
 
-// What a burst comes to: the verdict, a refusal being that of the row where it stopped; how many rows were taken, how many
-// filtered rows came out, and the scan after them.
+// What a burst comes to: the verdict, a refusal being its own or that of the row where it stopped; how many rows were
+// taken, how many filtered rows came out, and the scan after them.
 pub struct Burst {
     pub verdict: Verdict,
     pub taken: usize,

@@ -1,7 +1,8 @@
 use borrow.Author.Needs.{needs}
-use Rattle.layout.specs.declared.Verdict.the-variants.{Accepted, Refused}
+use Rattle.layout.specs.declared.Verdict.the-variants.{Accepted}
 use Rattle.burst.specs.Bursts.{Progress, noneTaken, Outcome, give, ends, answerOf, counted, nextRow, nextOut, nextSays, oneMore}
-use Rattle.burst.proofs.Parts.{partWay, Told, handed, verdict-is, part-is, part-long, part-back}
+use Rattle.burst.proofs.Parts.{part-is, part-long, part-back}
+use Rattle.burst.proofs.OneRow.{partWay, Told, handed, verdict-is}
 use Rattle.burst.proofs.Rests.{Left, none-given, all-given, row-room, place-room, row-small, out-small, row-refused, row-taken, refused, not-refused}
 use Prim.Native.Nat.{ℕ, _+_, _-_, _*_, _≤_, _<_}
 use mathlib.Core.Path.{_≡_, refl, sym, ap, subst, _∙_}
