@@ -195,6 +195,32 @@ pub fn scan_close(scan: &Scan) -> Started {
     unsafe { strip_scan_close(*scan) }
 }
 
+/// A call that takes samples, row after row, beside the stores and the output.
+type RowsCall<A> = unsafe extern "C" fn(
+    Scan,
+    *const u16,
+    usize,
+    *mut u16,
+    usize,
+    *mut u32,
+    usize,
+    *mut i32,
+    usize,
+) -> A;
+
+fn given<A>(
+    call: RowsCall<A>,
+    scan: &Scan,
+    rows: &[u16],
+    samples: &mut [u16],
+    sums: &mut [u32],
+    out: &mut [i32],
+) -> A {
+    let (n, m, o) = (samples.len(), sums.len(), out.len());
+    let (samples, sums, out) = (lent_mut(samples), lent_mut(sums), lent_mut(out));
+    unsafe { call(*scan, lent(rows), rows.len(), samples, n, sums, m, out, o) }
+}
+
 pub fn scan_row(
     scan: &Scan,
     row: &[u16],
@@ -202,19 +228,7 @@ pub fn scan_row(
     sums: &mut [u32],
     out: &mut [i32],
 ) -> Answer {
-    unsafe {
-        strip_scan_row(
-            *scan,
-            lent(row),
-            row.len(),
-            lent_mut(samples),
-            samples.len(),
-            lent_mut(sums),
-            sums.len(),
-            lent_mut(out),
-            out.len(),
-        )
-    }
+    given(strip_scan_row, scan, row, samples, sums, out)
 }
 
 pub fn scan_rows(
@@ -224,19 +238,7 @@ pub fn scan_rows(
     sums: &mut [u32],
     out: &mut [i32],
 ) -> Burst {
-    unsafe {
-        strip_scan_rows(
-            *scan,
-            lent(rows),
-            rows.len(),
-            lent_mut(samples),
-            samples.len(),
-            lent_mut(sums),
-            sums.len(),
-            lent_mut(out),
-            out.len(),
-        )
-    }
+    given(strip_scan_rows, scan, rows, samples, sums, out)
 }
 
 pub fn scan_step(scan: &Scan, samples: &mut [u16], sums: &mut [u32], out: &mut [i32]) -> Answer {
