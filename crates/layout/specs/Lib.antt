@@ -1,3 +1,4 @@
 pub mod Contents
 pub mod Measure
 pub mod Answers
+pub mod Sequences

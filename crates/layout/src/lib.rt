@@ -1,5 +1,5 @@
 // A table by value, in the file's own widths, and the figures that follow from it: rows and columns of a
-// rectangle, word lengths, delay.
+// rectangle, word lengths, delay. The answers of the calls, and in specs/ what they say in the papers' numbers.
 mod measure;
 
 pub use measure::column_word;
@@ -36,5 +36,21 @@ pub struct Table {
 // Whether a call accepted what it was given, or the number and the place of the question it answered no.
 pub enum Verdict {
     Accepted,
+    Refused(u32, u32),
+}
+
+// What a row comes to: a filtered row with its number, none due yet, or the number and the place of the question
+// that was answered no.
+pub enum Answer {
+    Row(u32),
+    Waiting,
+    Refused(u32, u32),
+}
+
+// What a closing step comes to: the same, or that all rows are out.
+pub enum Closing {
+    Row(u32),
+    Waiting,
+    Done,
     Refused(u32, u32),
 }

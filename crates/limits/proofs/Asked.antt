@@ -3,23 +3,15 @@
 use Prim.Native.Nat.{ℕ, _≤_}
 use native.Mathlib.Omega.{arith}
 use mathlib.Core.Path.{_≡_, refl, sym, subst}
-use mathlib.Core.Bool.{Bool, true, false, _&&_}
+use mathlib.Core.Bool.{Bool, true, false, cond, _&&_}
 use lib.Dec.{T, leb, ltb, leb→le, ltb→lt}
 use mir.Facts.{and-yes}
 use Rattle.layout.specs.declared.Table.{Table}
-use Rattle.layout.specs.declared.Verdict.{Verdict}
 use Rattle.layout.specs.declared.Verdict.the-variants.{Accepted, Refused}
-use Rattle.limits.specs.Limits.{bitsGood, dropsGood, wordGood, headSays, fitting}
-use Rattle.layout.specs.Answers.{ask}
+use Rattle.limits.specs.Limits.{bitsGood, dropsGood, wordGood, headAsks, fitting}
+use Rattle.layout.specs.Answers.{verdict}
+use Rattle.layout.proofs.Questions.{all-yes}
 use Rattle.limits.specs.Slots.{HeadGood}
-
-not-accepted {ℓ} : {X : Type ℓ} (n p : ℕ) → Refused n p ≡ Accepted → X
-not-accepted n p e = absurd (let z : _≡_ {A = ℕ} 0 1 = cc in omega arith)
-
--- acceptance: the question was answered yes, and so were those after it
-pub ask-accepted : (n : ℕ) (b : Bool) (next : Verdict) → ask n b next ≡ Accepted → (b ≡ true) × (next ≡ Accepted)
-ask-accepted n true next e = (refl, e)
-ask-accepted n false next e = not-accepted n 0 e
 
 -- a header that questions 3 to 5 accept
 pub record HeadTests (b q1 q2 q3 t w : ℕ) : Type 0 where
@@ -27,22 +19,18 @@ pub record HeadTests (b q1 q2 q3 t w : ℕ) : Type 0 where
   pub drops : dropsGood b q1 q2 q3 ≡ true
   pub word : wordGood t w ≡ true
 
-pub head-accepted : (b q1 q2 q3 t w : ℕ) → headSays b q1 q2 q3 t w ≡ Accepted → HeadTests b q1 q2 q3 t w
-unfolding headSays
-head-accepted b q1 q2 q3 t w e =
-    let x = ask-accepted 3 (bitsGood b) _ e in
-    let y = ask-accepted 4 (dropsGood b q1 q2 q3) _ (x .1) in
-    let z = ask-accepted 5 (wordGood t w) _ (y .1) in
-    record { bits = x .0; drops = y .0; word = z .0 }
+pub head-accepted : (b q1 q2 q3 t w : ℕ) → verdict (headAsks b q1 q2 q3 t w) ≡ Accepted → HeadTests b q1 q2 q3 t w
+unfolding headAsks
+head-accepted b q1 q2 q3 t w e = let y = all-yes (headAsks b q1 q2 q3 t w) e in record { bits = y .0; drops = y .1 .0; word = y .1 .1 .0 }
 
 -- a header that they refuse fails one of them
-pub head-refused : (b q1 q2 q3 t w n p : ℕ) (rest : Bool) → headSays b q1 q2 q3 t w ≡ Refused n p
+pub head-refused : (b q1 q2 q3 t w n p : ℕ) (rest : Bool) → verdict (headAsks b q1 q2 q3 t w) ≡ Refused n p
     → (bitsGood b && (dropsGood b q1 q2 q3 && (wordGood t w && rest))) ≡ false
-unfolding headSays
+unfolding headAsks
 head-refused b q1 q2 q3 t w n p rest = go (bitsGood b) (dropsGood b q1 q2 q3) (wordGood t w)
   where
-    go : (x y z : Bool) → ask 3 x (ask 4 y (ask 5 z Accepted)) ≡ Refused n p → (x && (y && (z && rest))) ≡ false
-    go true true true e = not-accepted n p (sym e)
+    go : (x y z : Bool) → cond x (cond y (cond z Accepted (Refused 5 0)) (Refused 4 0)) (Refused 3 0) ≡ Refused n p → (x && (y && (z && rest))) ≡ false
+    go true true true e = absurd (let z : _≡_ {A = ℕ} 0 1 = cc in omega arith)
     go true true false e = refl
     go true false z e = refl
     go false y z e = refl

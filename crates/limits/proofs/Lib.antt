@@ -3,3 +3,4 @@ pub mod Bounds
 pub mod Values
 pub mod Asked
 pub mod Granted
+pub mod Answers

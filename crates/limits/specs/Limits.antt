@@ -2,6 +2,7 @@
 -- Assumes nothing.
 use Prim.Native.Nat.{ℕ, _-_, _*_, _^_}
 use mathlib.Core.Bool.{Bool, _&&_}
+use mathlib.Core.List.{List, [], _∷_}
 use lib.Dec.{leb, ltb}
 use lib.ListN.{length, getD}
 use lib.IntN.{ℤ, pos, negsuc, negℤ}
@@ -13,9 +14,7 @@ use Rattle.arith.specs.Floor.{floorDiv}
 use Rattle.arith.specs.Twos.{fitsSigned}
 use Rattle.layout.specs.declared.Rect.{Rect}
 use Rattle.layout.specs.declared.Table.{Table}
-use Rattle.layout.specs.declared.Verdict.{Verdict}
-use Rattle.layout.specs.declared.Verdict.the-variants.{Accepted}
-use Rattle.layout.specs.Answers.{ask}
+use Rattle.layout.specs.Answers.{Question, asks}
 use Rattle.layout.specs.Contents.{Contents, contents, noRect}
 use Rattle.layout.specs.Measure.{rowsOf, colsOf}
 
@@ -32,8 +31,8 @@ unfoldable pub wordGood : (t w : ℕ) → Bool
 wordGood t w = leb t 31 && (leb 8 w && leb w 32)
 
 -- questions 3 to 5, on a header's numbers
-unfoldable pub headSays : (b q1 q2 q3 t w : ℕ) → Verdict
-headSays b q1 q2 q3 t w = ask 3 (bitsGood b) (ask 4 (dropsGood b q1 q2 q3) (ask 5 (wordGood t w) Accepted))
+unfoldable pub headAsks : (b q1 q2 q3 t w : ℕ) → List Question
+headAsks b q1 q2 q3 t w = asks 3 (bitsGood b) ∷ asks 4 (dropsGood b q1 q2 q3) ∷ asks 5 (wordGood t w) ∷ []
 
 -- a lead from -15 to 15, its trail from -16 to 14 and below it
 unfoldable pub edgesGood : (lead trail : ℤ) → Bool

@@ -1,7 +1,7 @@
 // The loss figure of a rectangle.
 ghost use mathlib.Core.Path.{_≡_};
 ghost use Prim.Native.Nat.{_+_, _-_, _*_, _≤_};
-ghost use Rattle.limits.specs.Figures.{figureOf};
+ghost use Rattle.limits.specs.Figures.{figureSaid, lossOf};
 use crate::header::bits_good;
 use crate::header::drops_good;
 use arith::power;
@@ -18,7 +18,7 @@ pub enum Figure {
 
 // The loss figure of a rectangle in a table, whose b and drops are asked by questions 3 and 4.
 pub fn loss(t: Table, r: Rect) -> Figure
-    ensures { λ f. ⌜ f ≡ figureOf t r ⌝ }
+    ensures { λ f. ⌜ figureSaid f ≡ lossOf t r ⌝ }
 {
     if !bits_good(t.b) {
         return Figure::Refused(3, 0);

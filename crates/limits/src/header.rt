@@ -1,6 +1,7 @@
 // The questions on a header.
 ghost use mathlib.Core.Path.{_≡_};
-ghost use Rattle.limits.specs.Limits.{bitsGood, dropsGood, wordGood, headSays};
+ghost use Rattle.layout.specs.Answers.{verdict};
+ghost use Rattle.limits.specs.Limits.{bitsGood, dropsGood, wordGood, headAsks};
 use layout::Verdict;
 
 // Question 3.
@@ -32,7 +33,7 @@ fn word_good(t: u8, w: u8) -> bool
 
 // Questions 3 to 5, on a header's numbers.
 pub fn head(b: u8, q1: u8, q2: u8, q3: u8, t: u8, w: u8) -> Verdict
-    ensures { λ r. ⌜ r ≡ headSays b q1 q2 q3 t w ⌝ }
+    ensures { λ r. ⌜ r ≡ verdict (headAsks b q1 q2 q3 t w) ⌝ }
 {
     if !bits_good(b) {
         return Verdict::Refused(3, 0);

@@ -11,22 +11,9 @@ use lib.IntN.{ℤ, pos, negsuc}
 use lib.Dec.{T, leb, ltb, eqb, leb→le, ltb→lt, nltb→le, eqb→eq}
 use mir.Facts.{and-yes}
 use Rattle.arith.specs.All.{all}
-use Rattle.arith.specs.First.{firstNot}
 use Rattle.arith.proofs.Alls.{all-at}
-use Rattle.arith.proofs.Bools.{true-of}
-use Rattle.arith.proofs.Firsts.{first-below, first-beyond}
-use Rattle.layout.specs.declared.Verdict.{Verdict}
-use Rattle.layout.specs.declared.Verdict.the-variants.{Accepted, Refused}
-use Rattle.rule.specs.Questions.{askEach, widthGood, heightGood, placeGood, atMost}
+use Rattle.rule.specs.Questions.{widthGood, heightGood, placeGood, atMost}
 use Rattle.rule.specs.Sums.{HasBits, sampleAt}
-
-pub each-fails : (number n : ℕ) (f : ℕ → Bool) (next : Verdict) → firstNot n f < n → askEach number n f next ≡ Refused number (firstNot n f)
-unfolding askEach
-each-fails number n f next h = rw (first-below n f h)
-
-pub each-holds : (number n : ℕ) (f : ℕ → Bool) (next : Verdict) → n ≤ firstNot n f → askEach number n f next ≡ next
-unfolding askEach
-each-holds number n f next h = rw (true-of (all n f) (first-beyond n f h))
 
 pub width-bounds : {l : ℕ} → widthGood l ≡ true → (1 ≤ l) × (l ≤ 1024)
 unfolding widthGood
@@ -52,15 +39,6 @@ height-bounds {l} {n} w e =
 pub place-bounds : (l n r c : ℕ) → placeGood l n r c ≡ true → (r < n / l) × (c < l)
 unfolding placeGood
 place-bounds l n r c e = let h = and-yes (ltb r (n / l)) (ltb c l) (subst T (sym e) tt) in (ltb→lt _ _ (h .0), ltb→lt _ _ (h .1))
-
--- acceptance: each was answered yes, and so were the questions after
-pub each-accepted : (number n : ℕ) (f : ℕ → Bool) (next : Verdict) → askEach number n f next ≡ Accepted → T (all n f) × (next ≡ Accepted)
-unfolding askEach
-each-accepted number n f next e = go (all n f) e
-  where
-    go : (b : Bool) → cond b next (Refused number (firstNot n f)) ≡ Accepted → T b × (next ≡ Accepted)
-    go true e = (tt, e)
-    go false e = absurd (let z : _≡_ {A = ℕ} 0 1 = cc in omega arith)
 
 -- a scan that question 18 accepts has samples of b bits
 pub has-bits : (b l : ℕ) (xs : List ℕ) → T (all (length xs) (atMost (2 ^ b - 1) xs)) → HasBits b (sampleAt l xs)

@@ -1,18 +1,10 @@
 -- Questions on widths, scans and samples.
 -- Assumes nothing.
 use Prim.Native.Nat.{ℕ, _*_, _/_}
-use mathlib.Core.Bool.{Bool, cond, _&&_}
+use mathlib.Core.Bool.{Bool, _&&_}
 use mathlib.Core.List.{List}
 use lib.Dec.{leb, ltb, eqb}
 use lib.ListN.{getD}
-use Rattle.arith.specs.All.{all}
-use Rattle.arith.specs.First.{firstNot}
-use Rattle.layout.specs.declared.Verdict.{Verdict}
-use Rattle.layout.specs.declared.Verdict.the-variants.{Accepted, Refused}
-
--- a question asked of each of 0 to n - 1: no ends the call with its number and the lowest place, yes goes on to the next
-unfoldable pub askEach : (number n : ℕ) → (ℕ → Bool) → Verdict → Verdict
-askEach number n test next = cond (all n test) next (Refused number (firstNot n test))
 
 -- question 12: L is from 1 to 1,024
 unfoldable pub widthGood : (l : ℕ) → Bool

@@ -1,7 +1,9 @@
-use Rattle.limits.specs.declared.figure.Figure.the-variants.{Loss}
+use Rattle.layout.specs.Answers.{accepted}
+use mathlib.Core.List.{[], _∷_}
+use lib.IntN.{pos}
 use Rattle.limits.proofs.Asked.{drops-bounds}
 use Rattle.layout.specs.Measure.{lossFigure}
-use Rattle.limits.specs.Figures.{figureOf}
+use Rattle.limits.specs.Figures.{lossOf}
 use lib.Pow.{pow-pos, pow-mono, pow-add}
 use mathlib.Core.Path.{_≡_, refl, sym, ap, ap₂, _∙_, subst}
 use borrow.Author.Tests.{not-true, not-false}
@@ -30,7 +32,7 @@ bits-good-requires c κs = search needs
 
 -- src/measure.rt:73:9
 returns : tie.Need-returns
-unfolding figureOf
+unfolding lossOf
 returns c = rw (sym (c .before .bits-good .ensures) ∙ not-true _ (c .if1 .taken))
 
 -- src/measure.rt:75:9
@@ -39,7 +41,7 @@ drops-good-requires c κs = search needs
 
 -- src/measure.rt:76:9
 returns-2 : tie.Need-returns-2
-unfolding figureOf
+unfolding lossOf
 returns-2 c = rw (sym (c .before .before .before .bits-good .ensures) ∙ not-false _ (c .before .before .if1 .left), sym (c .before .drops-good .ensures) ∙ not-true _ (c .if2 .taken))
 
 -- src/measure.rt:78:13
@@ -88,7 +90,7 @@ dropped-requires c κs =
 
 -- src/measure.rt:69:1
 returns-3 : tie.Need-returns-3
-unfolding figureOf lossFigure
+unfolding lossOf lossFigure
 returns-3 c =
     let s = c .before .before .before .before .before .before in
     let e = sym (s .before .before .before .bits-good .ensures) ∙ not-false _ (s .before .before .if1 .left) in
@@ -105,7 +107,7 @@ returns-3 c =
       ← (c .before .before .before .before .before .columns .ensures .0),
       ← (c .before .before .before .before .rows .ensures .0),
     )
-    (ap Loss (c .dropped .ensures))
+    (ap (λ n. accepted (pos n ∷ [])) (c .dropped .ensures))
 
 pub loss-spec : {M : Type 1} → statement M
 loss-spec =

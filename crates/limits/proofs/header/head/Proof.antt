@@ -1,4 +1,4 @@
-use Rattle.limits.specs.Limits.{headSays}
+use Rattle.limits.specs.Limits.{headAsks}
 use mathlib.Core.Path.{sym, _∙_}
 use borrow.Author.Tests.{not-true, not-false}
 use borrow.Author.Needs.{needs}
@@ -16,7 +16,7 @@ bits-good-requires c κs = search needs
 
 -- src/limits.rt:52:9
 returns : tie.Need-returns
-unfolding headSays
+unfolding headAsks
 returns c = rw (sym (c .before .bits-good .ensures) ∙ not-true _ (c .if1 .taken))
 
 -- src/limits.rt:54:9
@@ -25,7 +25,7 @@ drops-good-requires c κs = search needs
 
 -- src/limits.rt:55:9
 returns-2 : tie.Need-returns-2
-unfolding headSays
+unfolding headAsks
 returns-2 c = rw (sym (c .before .before .before .bits-good .ensures) ∙ not-false _ (c .before .before .if1 .left), sym (c .before .drops-good .ensures) ∙ not-true _ (c .if2 .taken))
 
 -- src/limits.rt:57:9
@@ -34,7 +34,7 @@ word-good-requires c κs = search needs
 
 -- src/limits.rt:58:9
 returns-3 : tie.Need-returns-3
-unfolding headSays
+unfolding headAsks
 returns-3 c =
     rw (
       sym (c .before .before .before .before .before .bits-good .ensures) ∙ not-false _ (c .before .before .before .before .if1 .left),
@@ -44,7 +44,7 @@ returns-3 c =
 
 -- src/limits.rt:48:1
 returns-4 : tie.Need-returns-4
-unfolding headSays
+unfolding headAsks
 returns-4 c =
     rw (
       sym (c .before .before .before .before .before .bits-good .ensures) ∙ not-false _ (c .before .before .before .before .if1 .left),
