@@ -15,7 +15,6 @@ use borrow.Rule.Slice.PartMut.{putMid}
 use Rattle.arith.specs.Sum.{sum, sumℤ}
 use Rattle.arith.specs.All.{all}
 use Rattle.arith.specs.Diff.{Diff}
-use Rattle.arith.specs.First.{firstNot}
 use Rattle.arith.specs.Floor.{floorDiv}
 use Rattle.arith.specs.Tab.{tab, paste}
 use Rattle.arith.specs.Twos.{fitsSigned}
@@ -25,29 +24,17 @@ use Rattle.arith.proofs.Tabs.{tab-getD}
 use Rattle.arith.proofs.Words.{fits-widen}
 use Rattle.layout.specs.declared.Rect.{Rect}
 use Rattle.layout.specs.declared.Table.{Table}
-use Rattle.layout.specs.declared.Verdict.the-variants.{Accepted, Refused}
 use Rattle.layout.specs.Contents.{rect}
 use Rattle.layout.specs.Measure.{rowsOf, colsOf}
 use Rattle.limits.specs.Limits.{acceptable}
 use Rattle.limits.proofs.Granted.{Granted, granted}
 use Rattle.rule.specs.Sums.{covered}
-use Rattle.rule.proofs.Asked.{each-fails, each-holds}
 use Rattle.rule.proofs.Fitting.{value-fits}
-use Rattle.arrival.specs.Arrivals.{Arrival, newSum, sumMost, sumGood, arrivalSays, lineAt, windowAt, scaledAt, pixelAt}
+use Rattle.arrival.specs.Arrivals.{Arrival, newSum, sumMost, sumGood, lineAt, windowAt, scaledAt, pixelAt}
 use Rattle.arrival.specs.Passes.{Weighed}
 use Rattle.arrival.proofs.Lines.{cut-le}
 use Rattle.arrival.proofs.Carries.{good-at, pass-whole}
 use Rattle.arrival.proofs.Places.{part-length}
-
--- ---- question 19
-
-pub says-19 : (v : Arrival) (n : ℕ) → n ≡ firstNot (v .table .count) (λ k. all (v .width) (sumGood v k)) → n < v .table .count → arrivalSays v ≡ Refused 19 n
-unfolding arrivalSays
-says-19 v n e h = each-fails 19 (v .table .count) (λ k. all (v .width) (sumGood v k)) Accepted (subst (λ m. m < v .table .count) e h) ∙ ap (Refused 19) (sym e)
-
-pub says-yes : (v : Arrival) (n : ℕ) → n ≡ firstNot (v .table .count) (λ k. all (v .width) (sumGood v k)) → v .table .count ≤ n → arrivalSays v ≡ Accepted
-unfolding arrivalSays
-says-yes v n e h = each-holds 19 (v .table .count) (λ k. all (v .width) (sumGood v k)) Accepted (subst (λ m. v .table .count ≤ m) e h)
 
 -- ---- values
 

@@ -3,7 +3,7 @@
 use Prim.Native.Nat.{ℕ, _-_, _/_, _^_, _≤_, _<_}
 use native.Mathlib.Nat.{le-refl, le-trans, mul-le-mul, div-le-self}
 use native.Mathlib.Omega.{arith}
-use mathlib.Core.Path.{_≡_}
+use mathlib.Core.Path.{_≡_, sym, subst}
 use mathlib.Core.Bool.{true}
 use lib.Dec.{T}
 use lib.IntN.{pos}
@@ -12,25 +12,22 @@ use Rattle.arith.specs.All.{all}
 use Rattle.arith.specs.Twos.{fitsSigned}
 use Rattle.arith.proofs.Alls.{all-at}
 use Rattle.arith.proofs.Sums.{sum-bound}
-use Rattle.layout.specs.declared.Verdict.the-variants.{Accepted}
 use Rattle.layout.specs.Contents.{rect}
 use Rattle.layout.specs.Measure.{colsOf}
 use Rattle.limits.specs.Limits.{acceptable}
 use Rattle.limits.proofs.Granted.{granted}
 use Rattle.rule.specs.Sums.{covered}
-use Rattle.rule.proofs.Asked.{each-accepted}
+use Rattle.layout.proofs.Questions.{AllYes}
 use Rattle.rule.proofs.Fitting.{value-fits}
-use Rattle.arrival.specs.Arrivals.{Arrival, newSum, sumGood, arrivalSays, lineAt, windowAt, scaledAt, pixelAt}
+use Rattle.arrival.specs.Arrivals.{Arrival, newSum, sumGood, arrivalAsks, lineAt, windowAt, scaledAt, pixelAt}
 use Rattle.arrival.proofs.Carries.{good-at, most-le}
 use Rattle.arrival.proofs.Taken.{line-most, scaled-most}
 
 -- an arrival of a table within the limits that passes question 19, whatever the stores held
-module _ (v : Arrival) (a : acceptable (v .table) ≡ true) (e : arrivalSays v ≡ Accepted) where
+module _ (v : Arrival) (a : acceptable (v .table) ≡ true) (y : AllYes (arrivalAsks v)) where
   good : (k : ℕ) → k < v .table .count → T (all (v .width) (sumGood v k))
-  unfolding arrivalSays
-  good k h =
-      all-at (v .table .count) (λ k. all (v .width) (sumGood v k))
-      (each-accepted 19 (v .table .count) (λ k. all (v .width) (sumGood v k)) Accepted e .0) k h
+  unfolding arrivalAsks
+  good k h = all-at (v .table .count) (λ k. all (v .width) (sumGood v k)) (subst T (sym (y .0)) tt) k h
 
   -- S6: a new column sum, a window sum and a scaled one fit 32 bits, and a pixel fits the pixel word
   pub words-fit :

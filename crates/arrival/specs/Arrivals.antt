@@ -1,8 +1,9 @@
 -- What the arrival of a row does: the step described, on any stores.
 -- Assumes nothing.
-use Prim.Native.Nat.{ℕ, _+_, _-_, _*_, _/_, _%_, _^_}
-use mathlib.Core.Bool.{Bool, cond, _&&_}
-use mathlib.Core.List.{List, _++_}
+use Prim.Native.Nat.{ℕ, _+_, _-_, _*_, _/_, _%_, _^_, _≤_}
+use mathlib.Core.Path.{_≡_}
+use mathlib.Core.Bool.{Bool, true, cond, _&&_}
+use mathlib.Core.List.{List, [], _∷_, _++_}
 use lib.Dec.{leb, ltb, eqb}
 use lib.ListN.{length, getD, drop}
 use lib.IntN.{ℤ, pos, negsuc, _+ℤ_, _-ℤ_, _*ℤ_}
@@ -14,11 +15,10 @@ use Rattle.layout.specs.declared.Rect.{Rect}
 use Rattle.layout.specs.declared.Table.{Table}
 use Rattle.layout.specs.declared.Verdict.{Verdict}
 use Rattle.layout.specs.declared.Verdict.the-variants.{Accepted, Refused}
-use Rattle.layout.specs.Answers.{ask}
+use Rattle.layout.specs.Answers.{Question, asksEach, firstNo}
 use Rattle.layout.specs.Contents.{rect}
 use Rattle.layout.specs.Measure.{rowsOf, colsOf, delayOf}
 use Rattle.limits.specs.Limits.{acceptable}
-use Rattle.rule.specs.Questions.{askEach, widthGood}
 use Rattle.rule.specs.Sums.{covered}
 
 -- an arrival: its number, counted from 0, the row that arrives, and the stores that it finds
@@ -34,11 +34,6 @@ pub record Arrival : Type 0 where
 abbrev pub arriving : Table → (width number : ℕ) → (row samples sums : List ℕ) → Arrival
 arriving t width number row samples sums =
     record { table = t; width = width; number = number; row = row; samples = samples; sums = sums }
-
--- by a verdict: what holds where the call is accepted, and what where it is refused
-abbrev pub by {ℓ} : {A : Type ℓ} → Verdict → (accepted refused : A) → A
-by Accepted x y = x
-by (Refused number place) x y = y
 
 -- row e at column c, at arrival a of a row of l samples: zeros below 0, the arriving row itself, or the one kept from place
 -- (e mod 32)·L on
@@ -77,25 +72,12 @@ unfoldable pub sumGood : Arrival → (k c : ℕ) → Bool
 sumGood v k c = leb (leaving v k c) (stored v k c) && leb (newSum v k c) (sumMost (v .table) (rect (v .table) k))
 
 -- question 19, place the lowest rectangle
-unfoldable pub arrivalSays : Arrival → Verdict
-arrivalSays v = askEach 19 (v .table .count) (λ k. all (v .width) (sumGood v k)) Accepted
+unfoldable pub arrivalAsks : Arrival → List Question
+arrivalAsks v = asksEach 19 (v .table .count) (λ k. all (v .width) (sumGood v k)) ∷ []
 
 -- question 13: the sample store holds 32·L numbers, and the sum store a number for each rectangle and column
 unfoldable pub storesGood : (l count samples sums : ℕ) → Bool
 storesGood l count samples sums = leb (32 * l) samples && leb (count * l) sums
-
--- the questions of an arrival before 19, with the length of the output: at most 65,535 rows and 15 steps come before it
-unfoldable pub arrivalAsked : Arrival → (out : ℕ) → Verdict
-arrivalAsked v out =
-    ask 11 (acceptable (v .table))
-    (ask 12 (widthGood (v .width))
-    (ask 16 (leb (v .number) 65550)
-    (ask 17 (eqb (length (v .row)) (v .width))
-    (ask 13 (storesGood (v .width) (v .table .count) (length (v .samples)) (length (v .sums)) && leb (v .width) out) Accepted))))
-
--- and with 19
-abbrev pub arrivalAnswer : Arrival → (out : ℕ) → Verdict
-arrivalAnswer v out = by (arrivalAsked v out) (arrivalSays v) (arrivalAsked v out)
 
 -- the new column sum of column j, 0 outside the row
 unfoldable pub lineAt : Arrival → (k : ℕ) → (j : ℤ) → ℕ
@@ -128,3 +110,30 @@ sumsAfter v = grid (v .table .count) (v .width) (newSum v) ++ drop (v .table .co
 -- the filtered row in the first L places, and none while waiting
 unfoldable pub outputAfter : Arrival → List ℤ → List ℤ
 outputAfter v out = cond (ltb (v .number) (delayOf (v .table))) out (tab (v .width) (pixelAt v) ++ drop (v .width) out)
+
+-- what an arrival leaves: the verdict, the stores and the output
+pub record Leaves : Type 0 where
+  pub verdict : Verdict
+  pub samples : List ℕ
+  pub sums : List ℕ
+  pub out : List ℤ
+
+abbrev pub leaves : Verdict → (samples sums : List ℕ) → (out : List ℤ) → Leaves
+leaves verdict samples sums out = record { verdict = verdict; samples = samples; sums = sums; out = out }
+
+-- question 19: refused, all is as it was
+unfoldable pub arriveOf : Arrival → (out : List ℤ) → Leaves
+arriveOf v out =
+    firstNo (arrivalAsks v) (λ number place. leaves (Refused number place) (v .samples) (v .sums) out)
+    (leaves Accepted (samplesAfter v) (sumsAfter v) (outputAfter v out))
+
+-- ---- what an arrival asks of its caller, with the length of the output: at most 65,535 rows and 15 closing steps come before it
+
+pub record Fits (v : Arrival) (out : ℕ) : Type 0 where
+  pub table : acceptable (v .table) ≡ true
+  pub width-most : v .width ≤ 1024
+  pub number-most : v .number ≤ 65550
+  pub long : length (v .row) ≡ v .width
+  pub samples-long : 32 * v .width ≤ length (v .samples)
+  pub sums-long : v .table .count * v .width ≤ length (v .sums)
+  pub lent : v .width ≤ out

@@ -1,11 +1,7 @@
-// The arrival of a row: its questions, and what it leaves.
+// The arrival of a row: question 19, and what it leaves.
 ghost use mathlib.Core.Path.{_≡_};
-ghost use mathlib.Core.Bool.{true};
-ghost use Prim.Native.Nat.{_≤_};
 ghost use lib.ListN.{length};
-ghost use Rattle.limits.specs.Limits.{acceptable};
-ghost use Rattle.arrival.specs.Arrivals.{arriving, by, storesGood, arrivalSays, arrivalAsked, arrivalAnswer, samplesAfter, sumsAfter, outputAfter};
-ghost use Rattle.arrival.specs.Passes.{Room};
+ghost use Rattle.arrival.specs.Arrivals.{arriving, storesGood, leaves, arriveOf, Fits};
 use crate::kept::keep_row;
 use crate::rectangles::take_back_first;
 use crate::rectangles::values;
@@ -13,8 +9,6 @@ use crate::rectangles::write_row;
 use layout::Table;
 use layout::Verdict;
 use layout::delay;
-use limits::accepted;
-use rule::width_good;
 
 // Question 13, on the lengths of the stores.
 pub fn stores_good(width: usize, count: usize, samples: usize, sums: usize) -> bool
@@ -29,41 +23,9 @@ pub fn stores_good(width: usize, count: usize, samples: usize, sums: usize) -> b
     width <= sums / count
 }
 
-// The questions of an arrival before 19, with the length of the output.
-fn asked(
-    t: Table,
-    width: usize,
-    number: u32,
-    row: &[u16],
-    samples: &[u16],
-    sums: &[u32],
-    out: usize,
-) -> Verdict
-    ensures { λ v. ⌜ v ≡ arrivalAsked (arriving t width number (now (row .entry)) (now (samples .entry)) (now (sums .entry))) out ⌝ }
-{
-    if !accepted(t) {
-        return Verdict::Refused(11, 0);
-    }
-    if !width_good(width) {
-        return Verdict::Refused(12, 0);
-    }
-    if 65550 < number {
-        return Verdict::Refused(16, 0);
-    }
-    if row.len() != width {
-        return Verdict::Refused(17, 0);
-    }
-    if !stores_good(width, t.count, samples.len(), sums.len()) {
-        return Verdict::Refused(13, 0);
-    }
-    if out < width {
-        return Verdict::Refused(13, 0);
-    }
-    Verdict::Accepted
-}
-
-// Takes in what arrives, once all but question 19 is asked.
-fn taken_in(
+// A row, or a closing row of zeros, arrives: question 19. Accepted, the stores hold it, and the first L places of the
+// output the filtered row that is due, if one is; refused, nothing is changed.
+pub fn arrive(
     t: Table,
     width: usize,
     number: u32,
@@ -72,13 +34,9 @@ fn taken_in(
     sums: &mut [u32],
     out: &mut [i32],
 ) -> Verdict
-    requires { ⌜ acceptable t ≡ true ⌝ }
-    requires { ⌜ Room t width number (length (now row)) (length (now samples)) (length (now sums)) ⌝ }
-    requires { ⌜ (length (now row) ≡ width) × (width ≤ length (now out)) ⌝ }
-    ensures { λ v. ⌜ v ≡ arrivalSays (arriving t width number (now (row .entry)) (now (samples .entry)) (now (sums .entry))) ⌝ }
-    ensures { λ _. ⌜ now (samples .exit) ≡ by (arrivalSays (arriving t width number (now (row .entry)) (now (samples .entry)) (now (sums .entry)))) (samplesAfter (arriving t width number (now (row .entry)) (now (samples .entry)) (now (sums .entry)))) (now (samples .entry)) ⌝ }
-    ensures { λ _. ⌜ now (sums .exit) ≡ by (arrivalSays (arriving t width number (now (row .entry)) (now (samples .entry)) (now (sums .entry)))) (sumsAfter (arriving t width number (now (row .entry)) (now (samples .entry)) (now (sums .entry)))) (now (sums .entry)) ⌝ }
-    ensures { λ _. ⌜ now (out .exit) ≡ by (arrivalSays (arriving t width number (now (row .entry)) (now (samples .entry)) (now (sums .entry)))) (outputAfter (arriving t width number (now (row .entry)) (now (samples .entry)) (now (sums .entry))) (now (out .entry))) (now (out .entry)) ⌝ }
+    requires { ⌜ Fits (arriving t width number (now row) (now samples) (now sums)) (length (now out)) ⌝ }
+    ensures { λ v. ⌜ leaves v (now (samples .exit)) (now (sums .exit)) (now (out .exit))
+        ≡ arriveOf (arriving t width number (now (row .entry)) (now (samples .entry)) (now (sums .entry))) (now (out .entry)) ⌝ }
 {
     let arrival = number as usize;
     let d = delay(t) as usize;
@@ -95,27 +53,4 @@ fn taken_in(
         write_row(out, &acc, width, t.t);
     }
     Verdict::Accepted
-}
-
-// A row, or a closing row of zeros, arrives: questions 11, 12, 16, 17, 13 and 19. Accepted, the stores hold it, and the
-// first L places of the output the filtered row that is due, if one is; refused, nothing is changed.
-pub fn arrive(
-    t: Table,
-    width: usize,
-    number: u32,
-    row: &[u16],
-    samples: &mut [u16],
-    sums: &mut [u32],
-    out: &mut [i32],
-) -> Verdict
-    ensures { λ v. ⌜ v ≡ arrivalAnswer (arriving t width number (now (row .entry)) (now (samples .entry)) (now (sums .entry))) (length (now (out .entry))) ⌝ }
-    ensures { λ _. ⌜ now (samples .exit) ≡ by (arrivalAnswer (arriving t width number (now (row .entry)) (now (samples .entry)) (now (sums .entry))) (length (now (out .entry)))) (samplesAfter (arriving t width number (now (row .entry)) (now (samples .entry)) (now (sums .entry)))) (now (samples .entry)) ⌝ }
-    ensures { λ _. ⌜ now (sums .exit) ≡ by (arrivalAnswer (arriving t width number (now (row .entry)) (now (samples .entry)) (now (sums .entry))) (length (now (out .entry)))) (sumsAfter (arriving t width number (now (row .entry)) (now (samples .entry)) (now (sums .entry)))) (now (sums .entry)) ⌝ }
-    ensures { λ _. ⌜ now (out .exit) ≡ by (arrivalAnswer (arriving t width number (now (row .entry)) (now (samples .entry)) (now (sums .entry))) (length (now (out .entry)))) (outputAfter (arriving t width number (now (row .entry)) (now (samples .entry)) (now (sums .entry))) (now (out .entry))) (now (out .entry)) ⌝ }
-{
-    let v = asked(t, width, number, row, samples, sums, out.len());
-    match v {
-        Verdict::Refused(_, _) => v,
-        Verdict::Accepted => taken_in(t, width, number, row, samples, sums, out),
-    }
 }
