@@ -17,3 +17,7 @@ grid (suc k) l f = grid k l f ++ tab l (f k)
 -- ys with xs in place of what stood from place p on
 unfoldable pub paste {ℓ} : {A : Type ℓ} → (p : ℕ) → (xs ys : List A) → List A
 paste p xs ys = take p ys ++ xs ++ drop (p + length xs) ys
+
+-- zeros in the first n places
+abbrev pub zeroed : (n : ℕ) → List ℕ → List ℕ
+zeroed n xs = tab n (λ k. 0) ++ drop n xs

@@ -55,6 +55,16 @@ pub first-append : {A : Type 0} (ps qs : List Question) (f : ℕ → ℕ → A) 
 first-append [] qs f a = refl
 first-append (q ∷ ps) qs f a = ap (λ x. cond (q .holds) x (f (q .number) (q .place))) (first-append ps qs f a)
 
+-- a function of what a call comes to
+pub first-map : {A B : Type 0} (g : A → B) (qs : List Question) (f : ℕ → ℕ → A) (a : A) → g (firstNo qs f a) ≡ firstNo qs (λ n p. g (f n p)) (g a)
+first-map g [] f a = refl
+first-map g (q ∷ qs) f a = go (q .holds) (first-map g qs f a)
+  where
+    go : (b : Bool) → g (firstNo qs f a) ≡ firstNo qs (λ n p. g (f n p)) (g a)
+        → g (cond b (firstNo qs f a) (f (q .number) (q .place))) ≡ cond b (firstNo qs (λ n p. g (f n p)) (g a)) (g (f (q .number) (q .place)))
+    go true e = e
+    go false e = refl
+
 -- two calls that ask the same questions: refused alike, or accepted with every answer known
 pub same-questions : {A B : Type 0} (P : A → B → Type 0) (qs : List Question) (f : ℕ → ℕ → A) (a : A) (g : ℕ → ℕ → B) (b : B)
     → ((n p : ℕ) → P (f n p) (g n p)) → (AllYes qs → P a b) → P (firstNo qs f a) (firstNo qs g b)

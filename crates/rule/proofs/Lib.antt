@@ -4,3 +4,6 @@ pub mod Fitting
 pub mod Depends
 pub mod Asked
 pub mod Frame
+pub mod Covers
+pub mod Slides
+pub mod Steps

@@ -1,4 +1,6 @@
 pub mod Sums
+pub mod Cover
+pub mod Steps
 pub mod Pixels
 pub mod Accuracy
 pub mod Questions

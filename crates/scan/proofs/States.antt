@@ -10,11 +10,12 @@ use Rattle.layout.specs.Measure.{delayOf}
 use Rattle.layout.specs.declared.Table.{Table}
 use Rattle.layout.specs.declared.Verdict.the-variants.{Accepted}
 use Rattle.limits.specs.Limits.{acceptable}
-use Rattle.limits.proofs.Asked.{ask-accepted}
+use Rattle.layout.specs.Answers.{verdict}
+use Rattle.layout.proofs.Questions.{all-yes}
 use Rattle.rule.specs.Questions.{widthGood}
 use Rattle.scan.specs.declared.Scan.{Scan}
 use Rattle.arrival.specs.Arrivals.{storesGood}
-use Rattle.scan.specs.Calls.{agrees, startSays}
+use Rattle.scan.specs.Calls.{agrees, startAsks}
 
 -- a state whose numbers agree
 pub record Agreed (s : Scan) : Type 0 where
@@ -45,10 +46,6 @@ pub record Begins (t : Table) (l samples sums : ℕ) : Type 0 where
   pub width : widthGood l ≡ true
   pub stores : storesGood l (t .count) samples sums ≡ true
 
-pub begins : (t : Table) (l samples sums : ℕ) → startSays t l samples sums ≡ Accepted → Begins t l samples sums
-unfolding startSays
-begins t l samples sums e =
-    let a = ask-accepted 11 (acceptable t) _ e in
-    let b = ask-accepted 12 (widthGood l) _ (a .1) in
-    let c = ask-accepted 13 (storesGood l (t .count) samples sums) _ (b .1) in
-    record { table = a .0; width = b .0; stores = c .0 }
+pub begins : (t : Table) (l samples sums : ℕ) → verdict (startAsks t l samples sums) ≡ Accepted → Begins t l samples sums
+unfolding startAsks
+begins t l samples sums e = let y = all-yes (startAsks t l samples sums) e in record { table = y .0; width = y .1 .0; stores = y .1 .1 .0 }

@@ -1,25 +1,28 @@
--- The four calls: what each answers, and what it leaves.
+-- The four calls: each from what it is given to all that it leaves.
 -- Assumes nothing.
-use Prim.Native.Nat.{ℕ, suc, _+_, _-_, _^_}
+use Prim.Native.Nat.{ℕ, _+_, _-_, _*_, _^_}
 use mathlib.Core.Bool.{Bool, true, false, not, cond, _&&_}
 use mathlib.Core.List.{List, [], _∷_, _++_}
 use lib.Dec.{leb, ltb, eqb}
-use lib.ListN.{length, drop}
-use lib.IntN.{ℤ}
-use Rattle.arith.specs.Tab.{tab}
+use lib.ListN.{length}
+use lib.IntN.{ℤ, pos}
+use Rattle.arith.specs.Tab.{tab, zeroed}
 use Rattle.layout.specs.declared.Table.{Table}
-use Rattle.layout.specs.declared.Verdict.{Verdict}
-use Rattle.layout.specs.declared.Verdict.the-variants.{Accepted, Refused}
-use Rattle.layout.specs.Answers.{ask, Said}
+use Rattle.layout.specs.Answers.{Said, refused, accepted, waiting, done, Question, asks, asksEach, firstNo, Left, left}
 use Rattle.layout.specs.Measure.{delayOf}
 use Rattle.limits.specs.Limits.{acceptable}
-use Rattle.rule.specs.Questions.{askEach, widthGood, atMost}
+use Rattle.rule.specs.Questions.{widthGood, atMost}
+use Rattle.arrival.specs.Arrivals.{Arrival, arriving, storesGood, arrivalAsks, samplesAfter, sumsAfter, outputAfter}
 use Rattle.scan.specs.declared.Scan.{Scan}
-use Rattle.scan.specs.declared.Answer.{Answer}
-use Rattle.scan.specs.declared.Answer.the-variants.{Row, Waiting, Refused as RowRefused}
-use Rattle.scan.specs.declared.Closing.{Closing}
-use Rattle.scan.specs.declared.Closing.the-variants.{Row as LateRow, Waiting as StillWaiting, Done, Refused as StepRefused}
-use Rattle.arrival.specs.Arrivals.{Arrival, by, storesGood, arrivalSays}
+
+-- a scan, and the stores that are lent on from call to call
+pub record World : Type 0 where
+  pub scan : Scan
+  pub samples : List ℕ
+  pub sums : List ℕ
+
+abbrev pub world : Scan → (samples sums : List ℕ) → World
+world s samples sums = record { scan = s; samples = samples; sums = sums }
 
 -- question 14: the state's numbers agree
 unfoldable pub agrees : Scan → Bool
@@ -27,119 +30,87 @@ agrees s =
     acceptable (s .table) && (widthGood (s .width)
     && (leb (s .rows) 65535 && (leb (s .steps) (delayOf (s .table)) && cond (s .closed) true (eqb (s .steps) 0))))
 
+-- question 13 of a row or a step: the stores are long enough, and the output has L places
+unfoldable pub lentGood : Scan → (samples sums out : ℕ) → Bool
+lentGood s samples sums out = storesGood (s .width) (s .table .count) samples sums && leb (s .width) out
+
 -- ---- starting
 
-unfoldable pub startSays : Table → (l samples sums : ℕ) → Verdict
-startSays t l samples sums =
-    ask 11 (acceptable t) (ask 12 (widthGood l) (ask 13 (storesGood l (t .count) samples sums) Accepted))
-
--- a scan with no row in it; with width 0, which question 14 refuses, where starting is refused
-abbrev pub fresh : Table → ℕ → Scan
+-- a scan with no row in it
+abbrev pub fresh : Table → (l : ℕ) → Scan
 fresh t l = record { table = t; width = l; rows = 0; steps = 0; closed = false }
 
-abbrev pub startScan : Verdict → Table → ℕ → Scan
-startScan v t l = fresh t (by v l 0)
+unfoldable pub startAsks : Table → (l samples sums : ℕ) → List Question
+startAsks t l samples sums = asks 11 (acceptable t) ∷ asks 12 (widthGood l) ∷ asks 13 (storesGood l (t .count) samples sums) ∷ []
 
--- zeros in the first n places
-abbrev pub wiped : (n : ℕ) → List ℕ → List ℕ
-wiped n xs = tab n (λ k. 0) ++ drop n xs
+-- 11, 12 and 13. Accepted, the first 32·L samples and (rectangles)·L sums are zero; refused, the scan has width 0, which question 14 refuses
+unfoldable pub startOf : Table → (l : ℕ) → (samples sums : List ℕ) → Left World
+startOf t l samples sums =
+    firstNo (startAsks t l (length samples) (length sums)) (λ n p. left (refused n p) (world (fresh t 0) samples sums) [])
+    (left (accepted []) (world (fresh t l) (zeroed (32 * l) samples) (zeroed (t .count * l) sums)) [])
 
--- ---- a row
+-- ---- an arrival
 
 -- what arrives with a scan
-abbrev pub arrivalOf : Scan → (row samples sums : List ℕ) → Arrival
-arrivalOf s row samples sums =
-    record { table = s .table; width = s .width; number = s .rows + s .steps; row = row; samples = samples; sums = sums }
-
--- the questions before 19
-unfoldable pub rowAsked : Scan → (row : List ℕ) → (samples sums out : ℕ) → Verdict
-rowAsked s row samples sums out =
-    ask 14 (agrees s)
-    (ask 15 (not (s .closed))
-    (ask 16 (ltb (s .rows) 65535)
-    (ask 17 (eqb (length row) (s .width))
-    (ask 13 (storesGood (s .width) (s .table .count) samples sums && leb (s .width) out)
-    (askEach 18 (length row) (atMost (2 ^ s .table .b - 1) row) Accepted)))))
-
-abbrev pub rowSays : Scan → (row samples sums : List ℕ) → (out : ℕ) → Verdict
-rowSays s row samples sums out =
-    by (rowAsked s row (length samples) (length sums) out) (arrivalSays (arrivalOf s row samples sums)) (rowAsked s row (length samples) (length sums) out)
+abbrev pub arrivalOf : World → (row : List ℕ) → Arrival
+arrivalOf w row = arriving (w .scan .table) (w .scan .width) (w .scan .rows + w .scan .steps) row (w .samples) (w .sums)
 
 -- row a - D is out, or none is due yet
-unfoldable pub rowAnswer : Scan → Verdict → Answer
-rowAnswer s Accepted = cond (ltb (s .rows + s .steps) (delayOf (s .table))) Waiting (Row (s .rows + s .steps - delayOf (s .table)))
-rowAnswer s (Refused number place) = RowRefused number place
+unfoldable pub dueSaid : Scan → Said
+dueSaid s = cond (ltb (s .rows + s .steps) (delayOf (s .table))) waiting (accepted (pos (s .rows + s .steps - delayOf (s .table)) ∷ []))
 
--- a row's answer as the papers have it: the number, 0 where the row was taken in, and the place; and the filtered row that came out
-abbrev pub answerSaid : Answer → Said
-answerSaid (Row r) = record { number = 0; place = 0 }
-answerSaid Waiting = record { number = 0; place = 0 }
-answerSaid (RowRefused number place) = record { number = number; place = place }
+-- an arrival that is taken in, and the scan after it
+abbrev pub takenIn : World → (after : Scan) → Arrival → (out : List ℤ) → Left World
+takenIn w after v out = left (dueSaid (w .scan)) (world after (samplesAfter v) (sumsAfter v)) (outputAfter v out)
 
-abbrev pub answerRow : Answer → List ℕ
-answerRow (Row r) = r ∷ []
-answerRow Waiting = []
-answerRow (RowRefused number place) = []
+-- ---- a row
 
 -- the scan with one row more
 abbrev pub rowIn : Scan → Scan
 rowIn s = record { table = s .table; width = s .width; rows = s .rows + 1; steps = s .steps; closed = s .closed }
 
--- ---- closing
+-- the questions before 19
+unfoldable pub rowAsks : Scan → (row : List ℕ) → (samples sums out : ℕ) → List Question
+rowAsks s row samples sums out =
+    asks 14 (agrees s)
+    ∷ asks 15 (not (s .closed))
+    ∷ asks 16 (ltb (s .rows) 65535)
+    ∷ asks 17 (eqb (length row) (s .width))
+    ∷ asks 13 (lentGood s samples sums out)
+    ∷ asksEach 18 (length row) (atMost (2 ^ s .table .b - 1) row)
+    ∷ []
 
-unfoldable pub closeSays : Scan → Verdict
-closeSays s = ask 14 (agrees s) (ask 15 (not (s .closed)) Accepted)
+-- a row: 14, 15, 16, 17, 13, 18 and 19; refused, it leaves what it was given
+unfoldable pub rowOf : World → (row : List ℕ) → (out : List ℤ) → Left World
+rowOf w row out =
+    firstNo (rowAsks (w .scan) row (length (w .samples)) (length (w .sums)) (length out) ++ arrivalAsks (arrivalOf w row))
+    (λ n p. left (refused n p) w out) (takenIn w (rowIn (w .scan)) (arrivalOf w row) out)
+
+-- ---- closing
 
 abbrev pub shut : Scan → Scan
 shut s = record { table = s .table; width = s .width; rows = s .rows; steps = s .steps; closed = true }
 
+-- 14 and 15; no store is looked at
+unfoldable pub closeOf : World → Left World
+closeOf w =
+    firstNo (asks 14 (agrees (w .scan)) ∷ asks 15 (not (w .scan .closed)) ∷ []) (λ n p. left (refused n p) w [])
+    (left (accepted []) (world (shut (w .scan)) (w .samples) (w .sums)) [])
+
 -- ---- a closing step
 
--- what becomes of a step: refused, all rows out before it, or taken as an arrival
-pub data Turn : Type 0 where
-  refused : (number place : ℕ) → Turn
-  done : Turn
-  taken : Turn
-
-abbrev pub turn : Verdict → Turn → Turn
-turn Accepted next = next
-turn (Refused number place) next = refused number place
-
--- by a turn: what holds where the step is taken, and what where it is not
-abbrev pub byTurn {ℓ} : {A : Type ℓ} → Turn → (taken not : A) → A
-byTurn (refused number place) x y = y
-byTurn done x y = y
-byTurn taken x y = x
-
--- a closing step acts as a row of zeros
-abbrev pub closingOf : Scan → (samples sums : List ℕ) → Arrival
-closingOf s samples sums = arrivalOf s (tab (s .width) (λ k. 0)) samples sums
-
--- 14, 15, done where D steps are past, 13 and 19
-unfoldable pub stepTurn : Scan → (samples sums : List ℕ) → (out : ℕ) → Turn
-stepTurn s samples sums out =
-    turn (ask 14 (agrees s) (ask 15 (s .closed) Accepted))
-    (cond (leb (delayOf (s .table)) (s .steps)) done
-    (turn (ask 13 (storesGood (s .width) (s .table .count) (length samples) (length sums) && leb (s .width) out) (arrivalSays (closingOf s samples sums)))
-    taken))
-
-unfoldable pub stepAnswer : Scan → Turn → Closing
-stepAnswer s (refused number place) = StepRefused number place
-stepAnswer s done = Done
-stepAnswer s taken = cond (ltb (s .rows + s .steps) (delayOf (s .table))) StillWaiting (LateRow (s .rows + s .steps - delayOf (s .table)))
-
--- a step's answer as the papers have it, and the filtered row that came out
-abbrev pub closingSaid : Closing → Said
-closingSaid (LateRow r) = record { number = 0; place = 0 }
-closingSaid StillWaiting = record { number = 0; place = 0 }
-closingSaid Done = record { number = 0; place = 0 }
-closingSaid (StepRefused number place) = record { number = number; place = place }
-
-abbrev pub closingRow : Closing → List ℕ
-closingRow (LateRow r) = r ∷ []
-closingRow StillWaiting = []
-closingRow Done = []
-closingRow (StepRefused number place) = []
-
+-- the scan with one step more
 abbrev pub stepIn : Scan → Scan
 stepIn s = record { table = s .table; width = s .width; rows = s .rows; steps = s .steps + 1; closed = s .closed }
+
+-- a closing step acts as a row of zeros
+abbrev pub closingOf : World → Arrival
+closingOf w = arrivalOf w (tab (w .scan .width) (λ k. 0))
+
+-- 14 and 15; done where D steps are past; then 13 and 19
+unfoldable pub stepOf : World → (out : List ℤ) → Left World
+stepOf w out =
+    firstNo (asks 14 (agrees (w .scan)) ∷ asks 15 (w .scan .closed) ∷ []) (λ n p. left (refused n p) w out)
+    (cond (leb (delayOf (w .scan .table)) (w .scan .steps)) (left done w out)
+    (firstNo (asks 13 (lentGood (w .scan) (length (w .samples)) (length (w .sums)) (length out)) ∷ arrivalAsks (closingOf w))
+    (λ n p. left (refused n p) w out) (takenIn w (stepIn (w .scan)) (closingOf w) out)))

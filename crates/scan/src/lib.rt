@@ -5,6 +5,8 @@ mod starts;
 mod state;
 mod steps;
 
+use layout::Answer;
+use layout::Closing;
 use layout::Table;
 use layout::Verdict;
 pub use rows::row;
@@ -21,22 +23,6 @@ pub struct Scan {
     pub rows: u32,
     pub steps: u32,
     pub closed: bool,
-}
-
-// What a row comes to: a filtered row with its number, none due yet, or the number and the place of the question
-// that was answered no.
-pub enum Answer {
-    Row(u32),
-    Waiting,
-    Refused(u32, u32),
-}
-
-// What a closing step comes to: the same, or that all rows are out.
-pub enum Closing {
-    Row(u32),
-    Waiting,
-    Done,
-    Refused(u32, u32),
 }
 
 // The verdict on starting or closing, and the scan.

@@ -1,24 +1,22 @@
 // A row.
 ghost use mathlib.Core.Path.{_≡_};
 ghost use Prim.Native.Nat.{_≤_};
-ghost use lib.ListN.{length};
-ghost use Rattle.layout.specs.declared.Verdict.the-variants.{Accepted};
-ghost use Rattle.arrival.specs.Arrivals.{by, samplesAfter, sumsAfter, outputAfter};
-ghost use Rattle.scan.specs.Calls.{arrivalOf, rowAsked, rowSays, rowAnswer, rowIn};
-use crate::Answer;
+ghost use Rattle.layout.specs.Answers.{answerSaid, verdict, left};
+ghost use Rattle.scan.specs.Calls.{world, dueSaid, rowIn, rowAsks, rowOf};
 use crate::Moved;
 use crate::Scan;
 use crate::state::lent_good;
 use crate::state::state_good;
 use arith::power;
 use arrival::arrive;
+use layout::Answer;
 use layout::Verdict;
 use layout::delay;
 use rule::first_above;
 
 // The questions of a row before 19, on the lengths of the stores and the output.
 fn row_asked(s: Scan, row: &[u16], samples: usize, sums: usize, out: usize) -> Verdict
-    ensures { λ v. ⌜ v ≡ rowAsked s (now (row .entry)) samples sums out ⌝ }
+    ensures { λ v. ⌜ v ≡ verdict (rowAsks s (now (row .entry)) samples sums out) ⌝ }
 {
     if !state_good(s) {
         return Verdict::Refused(14, 0);
@@ -33,11 +31,10 @@ fn row_asked(s: Scan, row: &[u16], samples: usize, sums: usize, out: usize) -> V
     if row.len() != width {
         return Verdict::Refused(17, 0);
     }
-    let t = s.table;
-    if !lent_good(width, t.count, samples, sums, out) {
+    if !lent_good(s, samples, sums, out) {
         return Verdict::Refused(13, 0);
     }
-    let place = first_above(row, (power(t.b) - 1) as u16);
+    let place = first_above(row, (power(s.table.b) - 1) as u16);
     if place < row.len() {
         return Verdict::Refused(18, place as u32);
     }
@@ -47,11 +44,8 @@ fn row_asked(s: Scan, row: &[u16], samples: usize, sums: usize, out: usize) -> V
 // A row comes in: questions 14, 15, 16, 17, 13, 18 and 19. Accepted, the stores hold it, and the first L places of the
 // output the filtered row that is due, if one is; refused, nothing is changed.
 pub fn row(s: Scan, row: &[u16], samples: &mut [u16], sums: &mut [u32], out: &mut [i32]) -> Moved
-    ensures { λ r. ⌜ r .answer ≡ rowAnswer s (rowSays s (now (row .entry)) (now (samples .entry)) (now (sums .entry)) (length (now (out .entry)))) ⌝ }
-    ensures { λ r. ⌜ r .scan ≡ by (rowSays s (now (row .entry)) (now (samples .entry)) (now (sums .entry)) (length (now (out .entry)))) (rowIn s) s ⌝ }
-    ensures { λ _. ⌜ now (samples .exit) ≡ by (rowSays s (now (row .entry)) (now (samples .entry)) (now (sums .entry)) (length (now (out .entry)))) (samplesAfter (arrivalOf s (now (row .entry)) (now (samples .entry)) (now (sums .entry)))) (now (samples .entry)) ⌝ }
-    ensures { λ _. ⌜ now (sums .exit) ≡ by (rowSays s (now (row .entry)) (now (samples .entry)) (now (sums .entry)) (length (now (out .entry)))) (sumsAfter (arrivalOf s (now (row .entry)) (now (samples .entry)) (now (sums .entry)))) (now (sums .entry)) ⌝ }
-    ensures { λ _. ⌜ now (out .exit) ≡ by (rowSays s (now (row .entry)) (now (samples .entry)) (now (sums .entry)) (length (now (out .entry)))) (outputAfter (arrivalOf s (now (row .entry)) (now (samples .entry)) (now (sums .entry))) (now (out .entry))) (now (out .entry)) ⌝ }
+    ensures { λ r. ⌜ left (answerSaid (r .answer)) (world (r .scan) (now (samples .exit)) (now (sums .exit))) (now (out .exit))
+        ≡ rowOf (world s (now (samples .entry)) (now (sums .entry))) (now (row .entry)) (now (out .entry)) ⌝ }
 {
     let v = row_asked(s, row, samples.len(), sums.len(), out.len());
     match v {
@@ -75,8 +69,7 @@ pub fn row(s: Scan, row: &[u16], samples: &mut [u16], sums: &mut [u32], out: &mu
 // The answer to a row that was taken in, and the scan after it.
 fn row_taken(s: Scan) -> Moved
     requires { ⌜ (s .rows ≤ 65535) × (s .steps ≤ 15) ⌝ }
-    ensures { λ r. ⌜ r .answer ≡ rowAnswer s Accepted ⌝ }
-    ensures { λ r. ⌜ r .scan ≡ rowIn s ⌝ }
+    ensures { λ r. ⌜ (answerSaid (r .answer) ≡ dueSaid s) × (r .scan ≡ rowIn s) ⌝ }
 {
     let a = s.rows + s.steps;
     let d = delay(s.table);

@@ -1,11 +1,11 @@
 // Starting and closing a scan.
 ghost use mathlib.Core.Path.{_≡_};
-ghost use mathlib.Core.List.{_++_};
-ghost use Prim.Native.Nat.{_*_, _≤_};
-ghost use lib.ListN.{length, drop};
-ghost use Rattle.arith.specs.Tab.{tab};
-ghost use Rattle.arrival.specs.Arrivals.{by};
-ghost use Rattle.scan.specs.Calls.{startSays, startScan, fresh, wiped, closeSays, shut};
+ghost use mathlib.Core.List.{List, []};
+ghost use Prim.Native.Nat.{ℕ, _≤_};
+ghost use lib.ListN.{length};
+ghost use Rattle.arith.specs.Tab.{zeroed};
+ghost use Rattle.layout.specs.Answers.{said, verdict, left};
+ghost use Rattle.scan.specs.Calls.{world, fresh, startAsks, startOf, closeOf};
 use crate::Scan;
 use crate::Started;
 use crate::state::state_good;
@@ -18,7 +18,7 @@ use rule::width_good;
 // Zeros into the first n samples.
 fn wipe(to: &mut [u16], n: usize)
     requires { ⌜ n ≤ length (now to) ⌝ }
-    ensures { λ _. ⌜ now (to .exit) ≡ tab n (λ k. 0) ++ drop n (now (to .entry)) ⌝ }
+    ensures { λ _. ⌜ now (to .exit) ≡ zeroed n (now (to .entry)) ⌝ }
 {
     let mut c = 0;
     while c < n {
@@ -30,7 +30,7 @@ fn wipe(to: &mut [u16], n: usize)
 // Zeros into the first n sums.
 fn wipe_sums(to: &mut [u32], n: usize)
     requires { ⌜ n ≤ length (now to) ⌝ }
-    ensures { λ _. ⌜ now (to .exit) ≡ tab n (λ k. 0) ++ drop n (now (to .entry)) ⌝ }
+    ensures { λ _. ⌜ now (to .exit) ≡ zeroed n (now (to .entry)) ⌝ }
 {
     let mut c = 0;
     while c < n {
@@ -54,7 +54,7 @@ fn begun(table: Table, width: usize) -> Scan
 
 // Questions 11, 12 and 13, on the lengths of the stores.
 fn start_asked(t: Table, width: usize, samples: usize, sums: usize) -> Verdict
-    ensures { λ v. ⌜ v ≡ startSays t width samples sums ⌝ }
+    ensures { λ v. ⌜ v ≡ verdict (startAsks t width samples sums) ⌝ }
 {
     if !accepted(t) {
         return Verdict::Refused(11, 0);
@@ -71,10 +71,8 @@ fn start_asked(t: Table, width: usize, samples: usize, sums: usize) -> Verdict
 // Starts a scan: questions 11, 12 and 13. Accepted, it sets the first 32·L samples and (rectangles)·L sums to zero.
 // Refused, it hands out a scan of width 0, which every other call refuses.
 pub fn start(t: Table, width: usize, samples: &mut [u16], sums: &mut [u32]) -> Started
-    ensures { λ r. ⌜ r .verdict ≡ startSays t width (length (now (samples .entry))) (length (now (sums .entry))) ⌝ }
-    ensures { λ r. ⌜ r .scan ≡ startScan (startSays t width (length (now (samples .entry))) (length (now (sums .entry)))) t width ⌝ }
-    ensures { λ _. ⌜ now (samples .exit) ≡ by (startSays t width (length (now (samples .entry))) (length (now (sums .entry)))) (wiped (32 * width) (now (samples .entry))) (now (samples .entry)) ⌝ }
-    ensures { λ _. ⌜ now (sums .exit) ≡ by (startSays t width (length (now (samples .entry))) (length (now (sums .entry)))) (wiped (t .count * width) (now (sums .entry))) (now (sums .entry)) ⌝ }
+    ensures { λ r. ⌜ left (said (r .verdict)) (world (r .scan) (now (samples .exit)) (now (sums .exit))) []
+        ≡ startOf t width (now (samples .entry)) (now (sums .entry)) ⌝ }
 {
     let v = start_asked(t, width, samples.len(), sums.len());
     match v {
@@ -93,10 +91,9 @@ pub fn start(t: Table, width: usize, samples: &mut [u16], sums: &mut [u32]) -> S
     }
 }
 
-// Closes a scan: questions 14 and 15.
+// Closes a scan: questions 14 and 15. Whatever stores the scan has stay as they are.
 pub fn close(s: Scan) -> Started
-    ensures { λ r. ⌜ r .verdict ≡ closeSays s ⌝ }
-    ensures { λ r. ⌜ r .scan ≡ by (closeSays s) (shut s) s ⌝ }
+    ensures { λ r. ⌜ ((samples sums : List ℕ) → left (said (r .verdict)) (world (r .scan) samples sums) [] ≡ closeOf (world s samples sums)) ⌝ }
 {
     if !state_good(s) {
         return Started {

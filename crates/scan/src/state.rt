@@ -1,9 +1,6 @@
 // The questions on a scan's state and on the stores.
 ghost use mathlib.Core.Path.{_≡_};
-ghost use mathlib.Core.Bool.{_&&_};
-ghost use lib.Dec.{leb};
-ghost use Rattle.arrival.specs.Arrivals.{storesGood};
-ghost use Rattle.scan.specs.Calls.{agrees};
+ghost use Rattle.scan.specs.Calls.{agrees, lentGood};
 use crate::Scan;
 use arrival::stores_good;
 use layout::delay;
@@ -30,11 +27,11 @@ pub fn state_good(s: Scan) -> bool
 }
 
 // Question 13 of a row or a step, with the length of the output.
-pub fn lent_good(width: usize, count: usize, samples: usize, sums: usize, out: usize) -> bool
-    ensures { λ g. ⌜ g ≡ (storesGood width count samples sums && leb width out) ⌝ }
+pub fn lent_good(s: Scan, samples: usize, sums: usize, out: usize) -> bool
+    ensures { λ g. ⌜ g ≡ lentGood s samples sums out ⌝ }
 {
-    if stores_good(width, count, samples, sums) {
-        width <= out
+    if stores_good(s.width, s.table.count, samples, sums) {
+        s.width <= out
     } else {
         false
     }

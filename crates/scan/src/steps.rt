@@ -1,15 +1,14 @@
 // A closing step.
 ghost use mathlib.Core.Path.{_≡_};
-ghost use Prim.Native.Nat.{_+_, _≤_};
-ghost use lib.ListN.{length};
-ghost use Rattle.arrival.specs.Arrivals.{samplesAfter, sumsAfter, outputAfter};
-ghost use Rattle.scan.specs.Calls.{taken, byTurn, closingOf, stepTurn, stepAnswer, stepIn};
-use crate::Closing;
+ghost use Prim.Native.Nat.{_≤_};
+ghost use Rattle.layout.specs.Answers.{closingSaid, left};
+ghost use Rattle.scan.specs.Calls.{world, dueSaid, stepIn, stepOf};
 use crate::Scan;
 use crate::Stepped;
 use crate::state::lent_good;
 use crate::state::state_good;
 use arrival::arrive;
+use layout::Closing;
 use layout::Verdict;
 use layout::delay;
 
@@ -23,8 +22,7 @@ fn stopped(answer: Closing, s: Scan) -> Stepped
 // The answer to a step that was taken, and the scan after it.
 fn step_taken(s: Scan) -> Stepped
     requires { ⌜ (s .rows ≤ 65535) × (s .steps ≤ 15) ⌝ }
-    ensures { λ r. ⌜ r .answer ≡ stepAnswer s taken ⌝ }
-    ensures { λ r. ⌜ r .scan ≡ stepIn s ⌝ }
+    ensures { λ r. ⌜ (closingSaid (r .answer) ≡ dueSaid s) × (r .scan ≡ stepIn s) ⌝ }
 {
     let a = s.rows + s.steps;
     let d = delay(s.table);
@@ -45,11 +43,8 @@ fn step_taken(s: Scan) -> Stepped
 // A closing step, as a row of zeros: questions 14 and 15, done where D steps are past, then 13 and 19. Refused or done,
 // nothing is changed.
 pub fn step(s: Scan, samples: &mut [u16], sums: &mut [u32], out: &mut [i32]) -> Stepped
-    ensures { λ r. ⌜ r .answer ≡ stepAnswer s (stepTurn s (now (samples .entry)) (now (sums .entry)) (length (now (out .entry)))) ⌝ }
-    ensures { λ r. ⌜ r .scan ≡ byTurn (stepTurn s (now (samples .entry)) (now (sums .entry)) (length (now (out .entry)))) (stepIn s) s ⌝ }
-    ensures { λ _. ⌜ now (samples .exit) ≡ byTurn (stepTurn s (now (samples .entry)) (now (sums .entry)) (length (now (out .entry)))) (samplesAfter (closingOf s (now (samples .entry)) (now (sums .entry)))) (now (samples .entry)) ⌝ }
-    ensures { λ _. ⌜ now (sums .exit) ≡ byTurn (stepTurn s (now (samples .entry)) (now (sums .entry)) (length (now (out .entry)))) (sumsAfter (closingOf s (now (samples .entry)) (now (sums .entry)))) (now (sums .entry)) ⌝ }
-    ensures { λ _. ⌜ now (out .exit) ≡ byTurn (stepTurn s (now (samples .entry)) (now (sums .entry)) (length (now (out .entry)))) (outputAfter (closingOf s (now (samples .entry)) (now (sums .entry))) (now (out .entry))) (now (out .entry)) ⌝ }
+    ensures { λ r. ⌜ left (closingSaid (r .answer)) (world (r .scan) (now (samples .exit)) (now (sums .exit))) (now (out .exit))
+        ≡ stepOf (world s (now (samples .entry)) (now (sums .entry))) (now (out .entry)) ⌝ }
 {
     if !state_good(s) {
         return stopped(Closing::Refused(14, 0), s);
@@ -61,10 +56,10 @@ pub fn step(s: Scan, samples: &mut [u16], sums: &mut [u32], out: &mut [i32]) -> 
     if delay(t) <= s.steps {
         return stopped(Closing::Done, s);
     }
-    let width = s.width;
-    if !lent_good(width, t.count, samples.len(), sums.len(), out.len()) {
+    if !lent_good(s, samples.len(), sums.len(), out.len()) {
         return stopped(Closing::Refused(13, 0), s);
     }
+    let width = s.width;
     let zeros = [0u16; 1024];
     let number = s.rows + s.steps;
     let v = arrive(t, width, number, &zeros[0..width], samples, sums, out);

@@ -1,6 +1,8 @@
 use Rattle.scan.proofs.Rooms.{Asked, asked, counts, arrives}
-use Rattle.arrival.specs.Arrivals.{arrivalAsked}
-use Rattle.scan.specs.Calls.{arrivalOf, rowAsked, rowAnswer}
+use Rattle.scan.proofs.Lefts.{row-by, row-arrives}
+use Rattle.arrival.specs.Arrivals.{Fits}
+use Rattle.layout.specs.Answers.{verdict}
+use Rattle.scan.specs.Calls.{world, arrivalOf, rowAsks}
 use Rattle.layout.specs.declared.Verdict.the-variants.{Accepted}
 use lib.ListN.{length}
 use mathlib.Core.Path.{_≡_, refl, sym, _∙_}
@@ -16,14 +18,17 @@ use Rattle.scan.proofs.rows.row_taken.Reads as row-taken-reads
 abbrev start : tie.After-enum-told → tie.Start
 start c = c .before .before .before .before .before .before
 
-accepted : (c : tie.After-enum-told) → rowAsked (start c .args .s) (start c .args .row .now) (length (start c .args .samples .now)) (length (start c .args .sums .now)) (length (start c .args .out .now)) ≡ Accepted
+accepted : (c : tie.After-enum-told)
+    → verdict (rowAsks (start c .args .s) (start c .args .row .now) (length (start c .args .samples .now)) (length (start c .args .sums .now)) (length (start c .args .out .now))) ≡ Accepted
 accepted c = sym (c .before .before .row-asked .ensures) ∙ c .enum-told .given .1
 
-known : (c : tie.After-enum-told) → Asked (start c .args .s) (length (start c .args .row .now)) (length (start c .args .samples .now)) (length (start c .args .sums .now)) (length (start c .args .out .now))
+known : (c : tie.After-enum-told)
+    → Asked (start c .args .s) (length (start c .args .row .now)) (length (start c .args .samples .now)) (length (start c .args .sums .now)) (length (start c .args .out .now))
 known c = asked _ _ _ _ _ (accepted c)
 
-arrived : (c : tie.After-enum-told) → arrivalAsked (arrivalOf (start c .args .s) (start c .args .row .now) (start c .args .samples .now) (start c .args .sums .now)) (length (start c .args .out .now)) ≡ Accepted
-arrived c = let h = known c in arrives _ _ _ _ _ (h .state) (h .long) (h .lent)
+arrived : (c : tie.After-enum-told)
+    → Fits (arrivalOf (world (start c .args .s) (start c .args .samples .now) (start c .args .sums .now)) (start c .args .row .now)) (length (start c .args .out .now))
+arrived c = let h = known c in arrives _ _ _ (h .state) (h .long) (h .lent)
 
 -- src/rows.rt:96:9
 row-asked-requires : tie.Need-row-asked-requires
@@ -43,7 +48,7 @@ add-arrive c = let n = counts (start (c .before) .args .s) (known (c .before) .s
 
 -- src/rows.rt:103:17
 arrive-requires : tie.Need-arrive-requires
-arrive-requires c κs = search needs
+arrive-requires c κs = arrived (c .before .before .before .before)
 
 -- src/rows.rt:105:34
 enum-known-w : tie.Need-enum-known-w
@@ -59,9 +64,7 @@ row-taken-requires c κs = let p = c .before .before .before .before .before .be
 
 -- src/rows.rt:89:1
 returns : tie.Need-returns
-unfolding rowAnswer
-returns c = let r = sym (c .before .before .before .row-asked .ensures) ∙ c .before .v .given .1 in
-    (rw r refl, (rw r refl, (rw r refl, (rw r refl, rw r refl))))
+returns c = rw (row-by, sym (c .before .before .before .row-asked .ensures) ∙ c .before .v .given .1) refl
 
 -- src/rows.rt:89:1
 same-length : tie.Need-same-length
@@ -77,13 +80,8 @@ same-length-3 c = search needs
 
 -- src/rows.rt:89:1
 returns-2 : tie.Need-returns-2
-unfolding rowAnswer
 returns-2 c = let m = c .before .before .before .before .before .before .before .before in
-    let p = m .before .before .before .before .before in
-    let a = rw (arrived p) at (m .arrive .ensures) in
-    let r = accepted p in
-    let q = sym (a .0) ∙ c .before .w .given .1 in
-    (rw (r, q) refl, (rw (r, q) refl, (rw r (a .1 .0), (rw r (a .1 .1 .0), rw r (a .1 .1 .1)))))
+    row-arrives _ _ _ (accepted (m .before .before .before .before .before)) (rw (c .before .w .given .1) at (m .arrive .ensures))
 
 -- src/rows.rt:89:1
 same-length-4 : tie.Need-same-length-4
@@ -100,11 +98,9 @@ same-length-6 c = search needs
 -- src/rows.rt:89:1
 returns-3 : tie.Need-returns-3
 returns-3 c = let m = c .before .before .before .before .before .before .before .before in
-    let p = m .before .before .before .before .before in
-    let a = rw (arrived p) at (m .arrive .ensures) in
-    let r = accepted p in
-    let q = sym (a .0) ∙ c .before .enum-told2 .given .1 in
-    (rw (r, q) (c .row-taken .ensures .0), (rw (r, q) (c .row-taken .ensures .1), (rw r (a .1 .0), (rw r (a .1 .1 .0), rw r (a .1 .1 .1)))))
+    let e = rw (c .before .enum-told2 .given .1) at (m .arrive .ensures) in
+    let r = c .row-taken .ensures in
+    rw (r .0, r .1) (row-arrives _ _ _ (accepted (m .before .before .before .before .before)) e)
 
 pub row-spec : {M : Type 1} → statement M
 row-spec =

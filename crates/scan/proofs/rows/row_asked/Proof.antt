@@ -1,7 +1,10 @@
 use Rattle.scan.proofs.States.{Agreed, agreed}
 use Rattle.arrival.specs.Arrivals.{storesGood}
-use Rattle.scan.specs.Calls.{agrees, rowAsked}
-use Rattle.rule.proofs.Asked.{width-bounds, each-fails, each-holds}
+use Rattle.scan.specs.Calls.{agrees, lentGood, rowAsks}
+use Rattle.rule.proofs.Asked.{width-bounds}
+use Rattle.arith.specs.All.{all}
+use Rattle.arith.proofs.Firsts.{first-below, first-beyond}
+use Rattle.arith.proofs.Bools.{true-of}
 use Rattle.rule.specs.Questions.{atMost}
 use Rattle.limits.proofs.Granted.{Granted, granted}
 use Rattle.layout.specs.declared.Verdict.the-variants.{Accepted, Refused}
@@ -47,12 +50,12 @@ answered c =
     }
 
 -- question 13 too
-lent : (c : tie.Else5) → (storesGood (start (c .before .before .before) .args .s .width) (start (c .before .before .before) .args .s .table .count) (start (c .before .before .before) .args .samples) (start (c .before .before .before) .args .sums) && leb (start (c .before .before .before) .args .s .width) (start (c .before .before .before) .args .out)) ≡ true
+lent : (c : tie.Else5) → lentGood (start (c .before .before) .args .s) (start (c .before .before) .args .samples) (start (c .before .before) .args .sums) (start (c .before .before) .args .out) ≡ true
 lent c = yes (c .before .lent-good .ensures) (c .if5 .left)
 
-power-is : (c : tie.After-power) → c .power .result ≡ 2 ^ start (c .before .before .before .before) .args .s .table .b
+power-is : (c : tie.After-power) → c .power .result ≡ 2 ^ start (c .before .before .before) .args .s .table .b
 power-is c =
-    let b = granted _ (agreed _ (answered (c .before .before .before .before) .state) .table) .bits-most in
+    let b = granted _ (agreed _ (answered (c .before .before .before) .state) .table) .bits-most in
     c .power .ensures .0 (omega arith)
 
 -- src/rows.rt:63:9
@@ -61,25 +64,25 @@ state-good-requires c κs = search needs
 
 -- src/rows.rt:64:9
 returns : tie.Need-returns
-unfolding rowAsked
+unfolding rowAsks
 returns c = rw (no (c .before .state-good .ensures) (c .if1 .taken)) refl
 
 -- src/rows.rt:67:9
 returns-2 : tie.Need-returns-2
-unfolding rowAsked
+unfolding rowAsks
 returns-2 c = let u = c .before in
     rw (yes (u .before .state-good .ensures) (u .if1 .left), c .if2 .taken) refl
 
 -- src/rows.rt:70:9
 returns-3 : tie.Need-returns-3
-unfolding rowAsked
+unfolding rowAsks
 returns-3 c = let w = c .before .before in
     let u = w .before in
     rw (yes (u .before .state-good .ensures) (u .if1 .left), w .if2 .left, le-ltb _ _ (c .if3 .taken)) refl
 
 -- src/rows.rt:74:9
 returns-4 : tie.Need-returns-4
-unfolding rowAsked
+unfolding rowAsks
 returns-4 c = let x = c .before in
     let w = x .before .before in
     let u = w .before in
@@ -91,9 +94,9 @@ lent-good-requires c κs = search needs
 
 -- src/rows.rt:78:9
 returns-5 : tie.Need-returns-5
-unfolding rowAsked
-returns-5 c = let y = answered (c .before .before .before) in
-    rw (y .state, y .opened, y .few, y .long, no (c .before .lent-good .ensures) (c .if5 .taken)) refl
+unfolding rowAsks
+returns-5 c = let y = answered (c .before .before) in
+    rw (y .state, no (c .before .lent-good .ensures) (c .if5 .taken), y .opened, y .few, y .long) refl
 
 -- src/rows.rt:80:35
 power-requires : tie.Need-power-requires
@@ -101,13 +104,13 @@ power-requires c κs = search needs
 
 -- src/rows.rt:80:35
 sub-first-above : tie.Need-sub-first-above
-sub-first-above c = let p = pow-pos (start (c .before .before .before .before) .args .s .table .b) in
+sub-first-above c = let p = pow-pos (start (c .before .before .before) .args .s .table .b) in
     let e = power-is c in omega arith
 
 -- src/rows.rt:80:34
 cast-first-above : tie.Need-cast-first-above
 cast-first-above c = let e = power-is c in
-    let b = granted _ (agreed _ (answered (c .before .before .before .before) .state) .table) .bits-most in
+    let b = granted _ (agreed _ (answered (c .before .before .before) .state) .table) .bits-most in
     let p = pow-mono b in search (needs, e, p)
 
 -- src/rows.rt:80:9
@@ -115,8 +118,8 @@ first-above-requires : tie.Need-first-above-requires
 first-above-requires c κs = search needs
 
 -- src/rows.rt:82:37
-cast-t15 : tie.Need-cast-t15
-cast-t15 c = let s = c .before .before .before .before .before .before in
+cast-t14 : tie.Need-cast-t14
+cast-t14 c = let s = c .before .before .before .before .before in
     let a = agreed _ (answered s .state) in
     let w = width-bounds (a .width) .1 in
     let e = s .if4 .left in
@@ -124,24 +127,24 @@ cast-t15 c = let s = c .before .before .before .before .before .before in
 
 -- src/rows.rt:82:9
 returns-6 : tie.Need-returns-6
-unfolding rowAsked
+unfolding rowAsks
 returns-6 c = let p = c .before .before in
-    let s = p .before .before .before .before in
+    let s = p .before .before .before in
     let y = answered s in
     let a = start s .args in
     let e = rw (power-is p) at (c .before .first-above .ensures) in
-    rw (y .state, y .opened, y .few, y .long, lent (p .before), each-fails 18 (length (a .row .now)) (atMost (2 ^ a .s .table .b - 1) (a .row .now)) Accepted (rw (← e) (c .if6 .taken)))
+    rw (y .state, lent (p .before), y .opened, y .few, y .long, first-below (length (a .row .now)) (atMost (2 ^ a .s .table .b - 1) (a .row .now)) (rw (← e) (c .if6 .taken)))
     (ap (Refused 18) e)
 
 -- src/rows.rt:60:1
 returns-7 : tie.Need-returns-7
-unfolding rowAsked
+unfolding rowAsks
 returns-7 c = let p = c .before .before in
-    let s = p .before .before .before .before in
+    let s = p .before .before .before in
     let y = answered s in
     let a = start s .args in
     let e = rw (power-is p) at (c .before .first-above .ensures) in
-    rw (y .state, y .opened, y .few, y .long, lent (p .before), each-holds 18 (length (a .row .now)) (atMost (2 ^ a .s .table .b - 1) (a .row .now)) Accepted (rw (← e) (c .if6 .left)))
+    rw (y .state, lent (p .before), y .opened, y .few, y .long, true-of (all (length (a .row .now)) (atMost (2 ^ a .s .table .b - 1) (a .row .now))) (first-beyond (length (a .row .now)) (atMost (2 ^ a .s .table .b - 1) (a .row .now)) (rw (← e) (c .if6 .left))))
     refl
 
 pub row-asked-spec : {M : Type 1} → statement M
@@ -159,6 +162,6 @@ row-asked-spec =
     sub-first-above
     cast-first-above
     first-above-requires
-    cast-t15
+    cast-t14
     returns-6
     returns-7)

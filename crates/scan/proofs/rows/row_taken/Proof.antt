@@ -1,4 +1,4 @@
-use Rattle.scan.specs.Calls.{rowAnswer}
+use Rattle.scan.specs.Calls.{dueSaid}
 use borrow.Author.Tests.{lt-ltb, le-ltb}
 use mathlib.Core.Path.{refl, sym, ap, _∙_}
 use borrow.Author.Needs.{needs}
@@ -22,12 +22,12 @@ add-after c = search needs
 
 -- src/rows.rt:126:9
 returns : tie.Need-returns
-unfolding rowAnswer
+unfolding dueSaid
 returns c = (rw (lt-ltb _ _ (rw (c .before .before .delay .ensures) at (c .if1 .taken))) refl, refl)
 
 -- src/rows.rt:116:1
 returns-2 : tie.Need-returns-2
-unfolding rowAnswer
+unfolding dueSaid
 returns-2 c = let e = c .before .before .delay .ensures in
     (rw (e, le-ltb _ _ (rw e at (c .if1 .left))) refl, refl)
 

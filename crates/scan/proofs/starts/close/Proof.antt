@@ -1,4 +1,4 @@
-use Rattle.scan.specs.Calls.{closeSays}
+use Rattle.scan.specs.Calls.{closeOf}
 use mathlib.Core.Path.{_≡_, refl, sym, ap, _∙_}
 use Rattle.arrival.proofs.Answered.{yes, no}
 use borrow.Author.Needs.{needs}
@@ -14,18 +14,18 @@ state-good-requires c κs = search needs
 
 -- src/starts.rt:90:9
 returns : tie.Need-returns
-unfolding closeSays
-returns c = let e = no (c .before .state-good .ensures) (c .if1 .taken) in (rw e refl, rw e refl)
+unfolding closeOf
+returns c = let e = no (c .before .state-good .ensures) (c .if1 .taken) in λ samples sums. rw e refl
 
 -- src/starts.rt:96:9
 returns-2 : tie.Need-returns-2
-unfolding closeSays
-returns-2 c = let e = yes (c .before .before .state-good .ensures) (c .before .if1 .left) in (rw (e, c .if2 .taken) refl, rw (e, c .if2 .taken) refl)
+unfolding closeOf
+returns-2 c = let e = yes (c .before .before .state-good .ensures) (c .before .if1 .left) in λ samples sums. rw (e, c .if2 .taken) refl
 
 -- src/starts.rt:85:1
 returns-3 : tie.Need-returns-3
-unfolding closeSays
-returns-3 c = let e = yes (c .before .before .state-good .ensures) (c .before .if1 .left) in (rw (e, c .if2 .left) refl, rw (e, c .if2 .left) refl)
+unfolding closeOf
+returns-3 c = let e = yes (c .before .before .state-good .ensures) (c .before .if1 .left) in λ samples sums. rw (e, c .if2 .left) refl
 
 pub close-spec : {M : Type 1} → statement M
 close-spec = tie.close (tie.spec state-good-requires returns returns-2 returns-3)

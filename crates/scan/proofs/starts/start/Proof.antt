@@ -1,6 +1,9 @@
 use Rattle.arrival.proofs.Asked.{stores-bounds}
 use Rattle.scan.proofs.States.{Begins, begins}
-use Rattle.scan.specs.Calls.{startSays, startScan, fresh, wiped}
+use Rattle.scan.specs.Calls.{world, fresh, startAsks, startOf}
+use Rattle.layout.specs.Answers.{accepted as said-yes, left}
+use Rattle.layout.proofs.Questions.{first-verdict}
+use mathlib.Core.List.{[]}
 use Rattle.limits.proofs.Granted.{Granted, granted}
 use Rattle.rule.proofs.Asked.{width-bounds}
 use lib.ListN.{length}
@@ -62,9 +65,10 @@ begun-requires-2 c κs = search needs
 
 -- src/starts.rt:61:1
 returns : tie.Need-returns
-returns c = let e = c .before .before .before .start-asked .ensures in
-    let r = sym e ∙ c .before .enum-told .given .1 in
-    (e, (c .begun .ensures ∙ rw r refl, (rw r refl, rw r refl)))
+unfolding startOf
+returns c = let a = c .before .before .before .before .before .before .args in
+    let v = c .before .enum-told .given .1 in
+    rw (first-verdict (startAsks (a .t) (a .width) (length (a .samples .now)) (length (a .sums .now))), sym (c .before .before .before .start-asked .ensures) ∙ v, v, c .begun .ensures) refl
 
 -- src/starts.rt:61:1
 same-length : tie.Need-same-length
@@ -76,12 +80,14 @@ same-length-2 c = search needs
 
 -- src/starts.rt:61:1
 returns-2 : tie.Need-returns-2
+unfolding startOf
 returns-2 c = let w = c .before .before .before in
     let p = w .before .before .before .before .before in
     let m = p .before .before in
-    let e = m .before .before .start-asked .ensures in
-    let r = sym e ∙ m .enum-told2 .given .1 in
-    (e, (c .begun2 .ensures ∙ rw r refl, (rw r (p .wipe .ensures), rw r (w .wipe-sums .ensures))))
+    let a = start (m .before) .args in
+    let v = m .enum-told2 .given .1 in
+    rw (first-verdict (startAsks (a .t) (a .width) (length (a .samples .now)) (length (a .sums .now))), sym (m .before .before .start-asked .ensures) ∙ v, v, c .begun2 .ensures)
+    (ap₂ (λ samples sums. left (said-yes []) (world (fresh (a .t) (a .width)) samples sums) []) (p .wipe .ensures) (w .wipe-sums .ensures))
 
 pub start-spec : {M : Type 1} → statement M
 start-spec =

@@ -1,4 +1,4 @@
-use Rattle.scan.specs.Calls.{startSays}
+use Rattle.scan.specs.Calls.{startAsks}
 use mathlib.Core.Path.{_≡_, refl, sym, ap, _∙_}
 use Rattle.arrival.proofs.Answered.{yes, no}
 use borrow.Author.Needs.{needs}
@@ -16,7 +16,7 @@ accepted-requires c κs = search needs
 
 -- src/starts.rt:48:9
 returns : tie.Need-returns
-unfolding startSays
+unfolding startAsks
 returns c = rw (no (c .before .accepted .ensures) (c .if1 .taken)) refl
 
 -- src/starts.rt:50:9
@@ -25,7 +25,7 @@ width-good-requires c κs = search needs
 
 -- src/starts.rt:51:9
 returns-2 : tie.Need-returns-2
-unfolding startSays
+unfolding startAsks
 returns-2 c = let u = c .before .before in
     rw (yes (u .before .accepted .ensures) (u .if1 .left), no (c .before .width-good .ensures) (c .if2 .taken)) refl
 
@@ -35,14 +35,14 @@ stores-good-requires c κs = search needs
 
 -- src/starts.rt:54:9
 returns-3 : tie.Need-returns-3
-unfolding startSays
+unfolding startAsks
 returns-3 c = let w = c .before .before in
     let u = w .before .before in
     rw (yes (u .before .accepted .ensures) (u .if1 .left), yes (w .before .width-good .ensures) (w .if2 .left), no (c .before .stores-good .ensures) (c .if3 .taken)) refl
 
 -- src/starts.rt:44:1
 returns-4 : tie.Need-returns-4
-unfolding startSays
+unfolding startAsks
 returns-4 c = let w = c .before .before in
     let u = w .before .before in
     rw (yes (u .before .accepted .ensures) (u .if1 .left), yes (w .before .width-good .ensures) (w .if2 .left), yes (c .before .stores-good .ensures) (c .if3 .left)) refl

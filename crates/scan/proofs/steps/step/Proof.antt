@@ -3,11 +3,12 @@ use Rattle.arith.proofs.Tabs.{length-tab}
 use Prim.Native.Nat.{ℕ, _-_, _≤_}
 use mathlib.Core.Path.{_≡_, refl, sym, _∙_}
 use lib.ListN.{length, take, replicate}
-use Rattle.scan.proofs.Rooms.{counts, arrives, zeros, turned}
+use Rattle.scan.proofs.Rooms.{counts, arrives, zeros}
+use Rattle.scan.proofs.Lefts.{step-by, step-arrives}
 use Rattle.scan.proofs.States.{agreed}
 use Rattle.arrival.proofs.Answered.{yes, no}
-use Rattle.arrival.specs.Arrivals.{storesGood, arrivalAsked}
-use Rattle.scan.specs.Calls.{agrees, closingOf, stepAnswer}
+use Rattle.arrival.specs.Arrivals.{Fits}
+use Rattle.scan.specs.Calls.{World, world, agrees, lentGood, closingOf}
 use Rattle.rule.proofs.Asked.{width-bounds}
 use Rattle.layout.specs.Measure.{delayOf}
 use Rattle.layout.specs.declared.Verdict.the-variants.{Accepted}
@@ -43,11 +44,15 @@ start c = c .before .before .before .before .before .before .before .before .bef
 abbrev opened : tie.Else3 → tie.Else2
 opened c = c .before .before .before .before
 
+-- the scan and the stores that it was given
+abbrev given : tie.Else3 → World
+given c = world (start c .args .s) (start c .args .samples .now) (start c .args .sums .now)
+
 past : (c : tie.Else3) → leb (delayOf (start c .args .s .table)) (start c .args .s .steps) ≡ false
 past c = lt-leb _ _ (rw (c .before .before .delay .ensures) at (c .if3 .left))
 
 -- and stores long enough
-lent : (c : tie.Else4) → (storesGood (start (c .before .before) .args .s .width) (start (c .before .before) .args .s .table .count) (length (start (c .before .before) .args .samples .now)) (length (start (c .before .before) .args .sums .now)) && leb (start (c .before .before) .args .s .width) (length (start (c .before .before) .args .out .now))) ≡ true
+lent : (c : tie.Else4) → lentGood (start (c .before .before) .args .s) (length (start (c .before .before) .args .samples .now)) (length (start (c .before .before) .args .sums .now)) (length (start (c .before .before) .args .out .now)) ≡ true
 lent c = yes (c .before .lent-good .ensures) (c .if4 .left)
 
 narrow : (c : tie.Else4) → start (c .before .before) .args .s .width ≤ 1024
@@ -57,8 +62,8 @@ narrow c = let p = c .before .before in width-bounds (agreed (start p .args .s) 
 line : (c : tie.Else4) → take {A = ℕ} (start (c .before .before) .args .s .width - 0) (replicate 1024 0) ≡ tab (start (c .before .before) .args .s .width) (λ k. 0)
 line c = zeros (start (c .before .before) .args .s .width) 1024 (narrow c)
 
-arrived : (c : tie.Else4) → arrivalAsked (closingOf (start (c .before .before) .args .s) (start (c .before .before) .args .samples .now) (start (c .before .before) .args .sums .now)) (length (start (c .before .before) .args .out .now)) ≡ Accepted
-arrived c = let p = c .before .before in arrives (start p .args .s) _ _ _ _ (shut (opened p) .state) (length-tab {A = ℕ} _ (λ k. 0)) (lent c)
+arrived : (c : tie.Else4) → Fits (closingOf (given (c .before .before))) (length (start (c .before .before) .args .out .now))
+arrived c = let p = c .before .before in arrives (given p) _ _ (shut (opened p) .state) (length-tab {A = ℕ} _ (λ k. 0)) (lent c)
 
 -- src/steps.rt:54:9
 state-good-requires : tie.Need-state-good-requires
@@ -70,12 +75,10 @@ stopped-requires c κs = search needs
 
 -- src/steps.rt:55:9
 returns : tie.Need-returns
-unfolding stepAnswer
 returns c = let u = c .before .before in
     let a = u .before .before .before .args in
-    let e = turned (a .s) (a .samples .now) (a .sums .now) (length (a .out .now)) (no (u .state-good .ensures) (c .before .if1 .taken)) refl refl refl in
     let r = c .stopped .ensures in
-    (rw e (r .0), (rw e (r .1), (rw e refl, (rw e refl, rw e refl))))
+    rw (step-by (world (a .s) (a .samples .now) (a .sums .now)) (a .out .now) (no (u .state-good .ensures) (c .before .if1 .taken)) refl refl refl, r .0, r .1) refl
 
 -- src/steps.rt:58:9
 stopped-requires-2 : tie.Need-stopped-requires-2
@@ -83,13 +86,11 @@ stopped-requires-2 c κs = search needs
 
 -- src/steps.rt:58:9
 returns-2 : tie.Need-returns-2
-unfolding stepAnswer
 returns-2 c = let u = c .before .before .before in
     let a = u .before .before .before .before .args in
     let f = not-true (a .s .closed) (c .before .if2 .taken) in
-    let e = turned (a .s) (a .samples .now) (a .sums .now) (length (a .out .now)) (yes (u .before .state-good .ensures) (u .if1 .left)) f refl refl in
     let r = c .stopped2 .ensures in
-    (rw e (r .0), (rw e (r .1), (rw e refl, (rw e refl, rw e refl))))
+    rw (step-by (world (a .s) (a .samples .now) (a .sums .now)) (a .out .now) (yes (u .before .state-good .ensures) (u .if1 .left)) f refl refl, r .0, r .1) refl
 
 -- src/steps.rt:61:8
 delay-requires : tie.Need-delay-requires
@@ -101,14 +102,12 @@ stopped-requires-3 c κs = search needs
 
 -- src/steps.rt:62:9
 returns-3 : tie.Need-returns-3
-unfolding stepAnswer
 returns-3 c = let d = c .before .before .before in
     let o = d .before .before in
     let a = o .before .before .before .before .before .before .args in
     let g = le-leb (delayOf (a .s .table)) (a .s .steps) (rw (d .delay .ensures) at (c .before .if3 .taken)) in
-    let e = turned (a .s) (a .samples .now) (a .sums .now) (length (a .out .now)) (shut o .state) (shut o .closed) g refl in
     let r = c .stopped3 .ensures in
-    (rw e (r .0), (rw e (r .1), (rw e refl, (rw e refl, rw e refl))))
+    rw (step-by (world (a .s) (a .samples .now) (a .sums .now)) (a .out .now) (shut o .state) (shut o .closed) g refl, r .0, r .1) refl
 
 -- src/steps.rt:65:9
 lent-good-requires : tie.Need-lent-good-requires
@@ -120,14 +119,10 @@ stopped-requires-4 c κs = search needs
 
 -- src/steps.rt:66:9
 returns-4 : tie.Need-returns-4
-unfolding stepAnswer
 returns-4 c = let p = c .before .before .before in
-    let o = opened p in
-    let a = start p .args in
-    let l = no (c .before .before .lent-good .ensures) (c .before .if4 .taken) in
-    let e = turned (a .s) (a .samples .now) (a .sums .now) (length (a .out .now)) (shut o .state) (shut o .closed) (past p) l in
+    let o = shut (opened p) in
     let r = c .stopped4 .ensures in
-    (rw e (r .0), (rw e (r .1), (rw e refl, (rw e refl, rw e refl))))
+    rw (step-by (given p) (start p .args .out .now) (o .state) (o .closed) (past p) (no (c .before .before .lent-good .ensures) (c .before .if4 .taken)), r .0, r .1) refl
 
 -- src/steps.rt:69:18
 add-number : tie.Need-add-number
@@ -148,7 +143,7 @@ part-arrive-end c = let w = narrow (c .before .before) in search (needs, w)
 
 -- src/steps.rt:69:9
 arrive-requires : tie.Need-arrive-requires
-arrive-requires c κs = search needs
+arrive-requires c κs = let q = c .before .before .before .before .before .before in rw (line q) (arrived q)
 
 -- src/steps.rt:71:26
 enum-known-v : tie.Need-enum-known-v
@@ -181,17 +176,13 @@ same-length-3 c = search needs
 
 -- src/steps.rt:47:1
 returns-5 : tie.Need-returns-5
-unfolding stepAnswer
 returns-5 c = let m = c .before .before .before .before .before .before .before .before .before in
     let q = m .before .before .before .before .before .before .before in
     let p = q .before .before in
-    let o = opened p in
-    let a = start p .args in
-    let t = rw (arrived q) at (rw (line q) at (m .arrive .ensures)) in
-    let e = turned (a .s) (a .samples .now) (a .sums .now) (length (a .out .now)) (shut o .state) (shut o .closed) (past p) (lent q) in
-    let v = sym (t .0) ∙ c .before .before .v .given .1 in
+    let o = shut (opened p) in
+    let e = rw (line q, c .before .before .v .given .1) at (m .arrive .ensures) in
     let r = c .stopped5 .ensures in
-    (rw (e, v) (r .0), (rw (e, v) (r .1), (rw (e, v) (rw v at (t .1 .0)), (rw (e, v) (rw v at (t .1 .1 .0)), rw (e, v) (rw v at (t .1 .1 .1))))))
+    rw (r .0, r .1) (step-arrives _ _ (o .state) (o .closed) (past p) (lent q) e)
 
 -- src/steps.rt:47:1
 same-length-4 : tie.Need-same-length-4
@@ -210,13 +201,10 @@ returns-6 : tie.Need-returns-6
 returns-6 c = let m = c .before .before .before .before .before .before .before .before in
     let q = m .before .before .before .before .before .before .before in
     let p = q .before .before in
-    let o = opened p in
-    let a = start p .args in
-    let t = rw (arrived q) at (rw (line q) at (m .arrive .ensures)) in
-    let e = turned (a .s) (a .samples .now) (a .sums .now) (length (a .out .now)) (shut o .state) (shut o .closed) (past p) (lent q) in
-    let v = sym (t .0) ∙ c .before .enum-told .given .1 in
+    let o = shut (opened p) in
+    let e = rw (line q, c .before .enum-told .given .1) at (m .arrive .ensures) in
     let r = c .step-taken .ensures in
-    (rw (e, v) (r .0), (rw (e, v) (r .1), (rw (e, v) (rw v at (t .1 .0)), (rw (e, v) (rw v at (t .1 .1 .0)), rw (e, v) (rw v at (t .1 .1 .1))))))
+    rw (r .0, r .1) (step-arrives _ _ (o .state) (o .closed) (past p) (lent q) e)
 
 pub step-spec : {M : Type 1} → statement M
 step-spec =
