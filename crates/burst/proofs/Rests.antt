@@ -3,62 +3,65 @@
 use Prim.Native.Nat.{ℕ, suc, _+_, _-_, _*_, _≤_, _<_}
 use native.Mathlib.Nat.{le-refl, mul-le-mul}
 use native.Mathlib.Omega.{arith}
-use mathlib.Core.Path.{_≡_, refl, sym, ap, subst, _∙_}
-use mathlib.Core.Bool.{true, false, not}
-use mathlib.Core.List.{List}
-use lib.Dec.{T, ltb}
-use borrow.Author.Tests.{ltb-true}
+use mathlib.Core.Path.{_≡_, refl, sym, ap, _∙_}
+use mathlib.Core.Bool.{Bool, true, false, cond}
+use mathlib.Core.List.{List, [], _∷_, _++_}
+use lib.Dec.{ltb}
+use lib.IntN.{ℤ, pos}
 use lib.ListN.{length}
-use Rattle.layout.specs.declared.Verdict.{Verdict}
-use Rattle.layout.specs.declared.Verdict.the-variants.{Accepted, Refused}
-use Rattle.arrival.specs.Arrivals.{by}
+use borrow.Author.Tests.{ltb-true}
+use Rattle.layout.specs.Answers.{Said, refused, accepted, waiting, Left, left, firstNo}
+use Rattle.layout.specs.Measure.{delayOf}
+use Rattle.layout.proofs.Questions.{first-yes}
+use Rattle.arrival.specs.Arrivals.{arrivalAsks}
 use Rattle.arrival.proofs.Places.{line-end}
 use Rattle.scan.specs.declared.Scan.{Scan}
-use Rattle.scan.specs.Calls.{agrees, rowAsked, rowSays, rowAnswer}
-use Rattle.limits.proofs.Asked.{ask-accepted}
-use Rattle.burst.specs.Bursts.{Progress, noneTaken, nextRow, nextOut, nextSays, oneMore, Outcome, ends, give}
-use Rattle.burst.proofs.OneRow.{row-most}
+use Rattle.scan.specs.Calls.{World, arrivalOf, dueSaid, takenIn, rowIn, rowAsks, rowOf}
+use Rattle.burst.specs.Bursts.{Progress, progress, isRefused, rowSaid, nextLeft, counted, feed}
 
--- a verdict that is a refusal, and one that is not
-pub refused : (v : Verdict) → by v false true ≡ true → {A : Type 0} (x y : A) → by v x y ≡ y
-refused Accepted e x y = absurd (subst T (sym e) tt)
-refused (Refused number place) e x y = refl
+-- a burst is refused where its row is
+pub row-refused : (s : Said) → isRefused (rowSaid s) ≡ isRefused s
+row-refused s = go (isRefused s) refl
+  where
+    go : (b : Bool) → isRefused s ≡ b → isRefused (cond b s (accepted [])) ≡ b
+    go true e = e
+    go false e = refl
 
-pub not-refused : (v : Verdict) → by v false true ≡ false → v ≡ Accepted
-not-refused Accepted e = refl
-not-refused (Refused number place) e = absurd (subst T e tt)
+-- a row that is not refused is taken, and is one of at most 65,535
+pub row-taken : (w : World) (row : List ℕ) (out : List ℤ) → isRefused (rowOf w row out .said) ≡ false
+    → (w .scan .rows < 65535) × (rowOf w row out ≡ takenIn w (rowIn (w .scan)) (arrivalOf w row) out)
+unfolding rowOf rowAsks
+row-taken w row out e =
+    let r =
+    first-yes (λ x. isRefused (x .said)) (rowAsks (w .scan) row (length (w .samples)) (length (w .sums)) (length out) ++ arrivalAsks (arrivalOf w row))
+    (λ n p. left (refused n p) w out) (takenIn w (rowIn (w .scan)) (arrivalOf w row) out) (λ n p. refl) e in
+    (ltb-true (w .scan .rows) 65535 (r .0 .1 .1 .0), r .1)
 
--- an accepted row is one of at most 65,535
-passed : (v w : Verdict) → by v w v ≡ Accepted → v ≡ Accepted
-passed Accepted w e = refl
-passed (Refused number place) w e = e
+-- at most one filtered row comes out of it
+due-most : (s : Scan) → length (dueSaid s .values) ≤ 1
+unfolding dueSaid
+due-most s = go (ltb (s .rows + s .steps) (delayOf (s .table)))
+  where
+    go : (b : Bool) → length (cond b waiting (accepted (pos (s .rows + s .steps - delayOf (s .table)) ∷ [])) .values) ≤ 1
+    go true = omega arith
+    go false = omega arith
 
-pub row-few : (s : Scan) (row samples sums : List ℕ) (out : ℕ) → rowSays s row samples sums out ≡ Accepted → s .rows < 65535
-unfolding rowAsked
-row-few s row samples sums out e =
-    let a = ask-accepted 14 (agrees s) _ (passed (rowAsked s row (length samples) (length sums) out) _ e) in
-    let b = ask-accepted 15 (not (s .closed)) _ (a .1) in
-    let c = ask-accepted 16 (ltb (s .rows) 65535) _ (b .1) in
-    ltb-true (s .rows) 65535 (c .0)
-
--- part way through n rows: there is room for them all, and what is left to give comes to the whole
-pub record Left (n : ℕ) (rows : List ℕ) (whole : Outcome) (p : Progress) : Type 0 where
-  pub rows-room : n * p .scan .width ≤ length rows
-  pub out-room : n * p .scan .width ≤ length (p .out)
+-- part way through n rows of l samples: there is room for them all, and what is left to give comes to the whole
+pub record Rest (l n : ℕ) (rows : List ℕ) (whole p : Progress World) : Type 0 where
+  pub rows-room : n * l ≤ length rows
+  pub out-room : n * l ≤ length (p .out)
   pub fewer : p .taken ≤ n
   pub packed : p .filtered ≤ p .taken
-  pub among : p .taken ≤ p .scan .rows
-  pub rows-most : p .scan .rows ≤ 65535
-  pub width-most : p .scan .width ≤ 1024
-  pub rest : give (n - p .taken) p rows ≡ whole
+  pub among : p .taken ≤ p .state .scan .rows
+  pub rows-most : p .state .scan .rows ≤ 65535
+  pub width-most : l ≤ 1024
+  pub rest : feed rowOf l (n - p .taken) p rows ≡ whole
 
 -- before the first row
-pub none-given : (n : ℕ) (rows : List ℕ) (p : Progress) → p .taken ≡ 0 → p .filtered ≡ 0 → n * p .scan .width ≤ length rows → n * p .scan .width ≤ length (p .out)
-    → p .scan .rows ≤ 65535 → p .scan .width ≤ 1024 → Left n rows (give n (noneTaken (p .scan) (p .samples) (p .sums) (p .out)) rows) p
-none-given n rows p t f a b g h =
-    let k : n - p .taken ≡ n = omega arith in
-    let e : _≡_ {A = Progress} record { scan = p .scan; samples = p .samples; sums = p .sums; out = p .out; taken = p .taken; filtered = p .filtered }
-    (noneTaken (p .scan) (p .samples) (p .sums) (p .out)) = rw (t, f) refl in
+pub none-fed : (l n : ℕ) (rows : List ℕ) (w : World) (out : List ℤ) → n * l ≤ length rows → n * l ≤ length out → w .scan .rows ≤ 65535 → l ≤ 1024
+    → Rest l n rows (feed rowOf l n (progress (accepted []) w out 0 0) rows) (progress (accepted []) w out 0 0)
+none-fed l n rows w out a b g h =
+    let k : n - 0 ≡ n = omega arith in
     record {
       rows-room = a;
       out-room = b;
@@ -67,56 +70,67 @@ none-given n rows p t f a b g h =
       among = omega arith;
       rows-most = g;
       width-most = h;
-      rest = ap (λ m. give m p rows) k ∙ ap (λ q. give n q rows) e;
+      rest = ap (λ m. feed rowOf l m (progress (accepted []) w out 0 0) rows) k;
     }
 
-module _ (n : ℕ) (rows : List ℕ) (whole : Outcome) (p : Progress) (l : Left n rows whole p) where
+module _ (l n : ℕ) (rows : List ℕ) (whole p : Progress World) (r : Rest l n rows whole p) where
   -- no row is left
-  pub all-given : n ≤ p .taken → ends Accepted p ≡ whole
-  unfolding give
-  all-given h = let e : n - p .taken ≡ 0 = omega arith in sym (ap (λ k. give k p rows) e) ∙ l .rest
+  pub all-fed : n ≤ p .taken → p ≡ whole
+  unfolding feed
+  all-fed h = let e : n - p .taken ≡ 0 = omega arith in sym (ap (λ k. feed rowOf l k p rows) e) ∙ r .rest
 
   module _ (h : p .taken < n) where
-    pub row-room : p .taken * p .scan .width + p .scan .width ≤ length rows
-    row-room = line-end (p .taken) n (p .scan .width) (length rows) h (l .rows-room)
+    -- the next row lies in the slice, and its filtered row has place in the output
+    pub row-room : p .taken * l + l ≤ length rows
+    row-room = line-end (p .taken) n l (length rows) h (r .rows-room)
 
-    pub place-room : p .filtered * p .scan .width + p .scan .width ≤ length (p .out)
-    place-room = let g = l .packed in line-end (p .filtered) n (p .scan .width) (length (p .out)) (omega arith) (l .out-room)
+    pub place-room : p .filtered * l + l ≤ length (p .out)
+    place-room = let g = r .packed in line-end (p .filtered) n l (length (p .out)) (omega arith) (r .out-room)
 
     -- both lie among the first 2^26 places
-    place-small : (k : ℕ) → k ≤ p .taken → k * p .scan .width + p .scan .width ≤ 67108864
+    place-small : (k : ℕ) → k ≤ p .taken → k * l + l ≤ 67108864
     place-small k g =
-        let a = l .among in
-        let b = l .rows-most in
+        let a = r .among in
+        let b = r .rows-most in
         let q : k + 1 ≤ 65536 = omega arith in
-        let m : (k + 1) * p .scan .width ≤ 65536 * 1024 = mul-le-mul q (l .width-most) in omega arith
+        let m : (k + 1) * l ≤ 65536 * 1024 = mul-le-mul q (r .width-most) in omega arith
 
-    pub row-small : p .taken * p .scan .width + p .scan .width ≤ 67108864
+    pub row-small : p .taken * l + l ≤ 67108864
     row-small = place-small (p .taken) (le-refl (p .taken))
 
-    pub out-small : p .filtered * p .scan .width + p .scan .width ≤ 67108864
-    out-small = place-small (p .filtered) (l .packed)
+    pub out-small : p .filtered * l + l ≤ 67108864
+    out-small = place-small (p .filtered) (r .packed)
 
-    next : by (nextSays p rows) (give (n - (p .taken + 1)) (oneMore p rows) rows) (ends (nextSays p rows) p) ≡ whole
-    unfolding give
-    next = let e : n - p .taken ≡ suc (n - (p .taken + 1)) = omega arith in sym (ap (λ k. give k p rows) e) ∙ l .rest
+    abbrev next : Progress World
+    next = counted l p (nextLeft rowOf l p rows)
+
+    goes : cond (isRefused (nextLeft rowOf l p rows .said)) next (feed rowOf l (n - (p .taken + 1)) next rows) ≡ whole
+    unfolding feed
+    goes = let e : n - p .taken ≡ suc (n - (p .taken + 1)) = omega arith in sym (ap (λ k. feed rowOf l k p rows) e) ∙ r .rest
 
     -- the next row is refused
-    pub row-refused : by (nextSays p rows) false true ≡ true → ends (nextSays p rows) p ≡ whole
-    row-refused e = sym (refused (nextSays p rows) e (give (n - (p .taken + 1)) (oneMore p rows) rows) (ends (nextSays p rows) p)) ∙ next
+    pub ends : isRefused (nextLeft rowOf l p rows .said) ≡ true → next ≡ whole
+    ends e = sym (ap (λ b. cond b next (feed rowOf l (n - (p .taken + 1)) next rows)) e) ∙ goes
 
     -- the next row is taken
-    pub row-taken : (q : Progress) → q ≡ oneMore p rows → length (q .out) ≡ length (p .out) → nextSays p rows ≡ Accepted → Left n rows whole q
-    unfolding oneMore
-    row-taken q f k e =
-        subst (Left n rows whole) (sym f)
+    pub goes-on : isRefused (nextLeft rowOf l p rows .said) ≡ false → length (next .out) ≡ length (p .out) → Rest l n rows whole next
+    goes-on e k =
+        let t = row-taken (p .state) _ _ e in
+        let few = t .0 in
+        let x = t .1 in
+        let more : next .state .scan .rows ≡ p .state .scan .rows + 1 = ap (λ y. y .state .scan .rows) x in
+        let one : next .taken ≡ p .taken + 1 = rw e refl in
+        let due = due-most (p .state .scan) in
+        let out : length (nextLeft rowOf l p rows .said .values) ≤ 1 = rw x due in
+        let a = r .packed in
+        let b = r .among in
         record {
-          rows-room = l .rows-room;
-          out-room = let m = l .out-room in let g = ap (λ r. length (r .out)) f in subst (λ x. n * p .scan .width ≤ x) (sym k ∙ g) m;
-          fewer = let g : p .taken + 1 ≤ n = omega arith in g;
-          packed = let g = l .packed in let m = row-most (rowAnswer (p .scan) Accepted) in omega arith;
-          among = let g = l .among in omega arith;
-          rows-most = let g = row-few (p .scan) (nextRow p rows) (p .samples) (p .sums) (length (nextOut p)) e in omega arith;
-          width-most = l .width-most;
-          rest = rw e at next;
+          rows-room = r .rows-room;
+          out-room = rw k (r .out-room);
+          fewer = omega arith;
+          packed = omega arith;
+          among = omega arith;
+          rows-most = omega arith;
+          width-most = r .width-most;
+          rest = ap (λ t. feed rowOf l (n - t) next rows) one ∙ sym (ap (λ b. cond b next (feed rowOf l (n - (p .taken + 1)) next rows)) e) ∙ goes;
         }

@@ -1,111 +1,78 @@
--- A burst: several rows given in one call.
+-- A burst: several rows given in one call, as the rows one by one.
 -- Assumes nothing.
 use Prim.Native.Nat.{ℕ, zero, suc, _+_, _*_, _/_, _%_}
-use mathlib.Core.Bool.{not}
-use mathlib.Core.List.{List}
+use mathlib.Core.Bool.{Bool, not, cond}
+use mathlib.Core.List.{List, [], _∷_}
 use lib.Dec.{leb, eqb}
 use lib.ListN.{length, take, drop}
-use lib.IntN.{ℤ}
+use lib.IntN.{ℤ, pos}
 use Rattle.arith.specs.Tab.{paste}
-use Rattle.layout.specs.declared.Verdict.{Verdict}
-use Rattle.layout.specs.declared.Verdict.the-variants.{Accepted, Refused}
-use Rattle.layout.specs.Answers.{ask}
-use Rattle.arrival.specs.Arrivals.{Arrival, by, samplesAfter, sumsAfter, outputAfter}
+use Rattle.layout.specs.Answers.{Said, refused, accepted, said, Question, asks, firstNo, Left, left}
 use Rattle.scan.specs.declared.Scan.{Scan}
-use Rattle.scan.specs.declared.Answer.{Answer}
-use Rattle.scan.specs.declared.Answer.the-variants.{Row, Waiting, Refused as RowRefused}
-use Rattle.scan.specs.Calls.{agrees, arrivalOf, rowSays, rowAnswer, answerRow, rowIn}
+use Rattle.scan.specs.Calls.{World, agrees, rowOf}
 use Rattle.burst.specs.declared.Burst.{Burst}
 
--- a scan part way through a burst, its stores and the output, how many rows were taken, and how many filtered rows stand in the output
-pub record Progress : Type 0 where
-  pub scan : Scan
-  pub samples : List ℕ
-  pub sums : List ℕ
+-- ---- rows one by one, for anything that takes a row with an output lent to it
+
+-- part way: accepted so far or the refusal where it stopped, the state, the output, the rows taken and the filtered rows that are out
+pub record Progress (S : Type 0) : Type 0 where
+  pub said : Said
+  pub state : S
   pub out : List ℤ
   pub taken : ℕ
   pub filtered : ℕ
 
--- before the first row
-abbrev pub noneTaken : Scan → (samples sums : List ℕ) → List ℤ → Progress
-noneTaken s samples sums out =
-    record { scan = s; samples = samples; sums = sums; out = out; taken = 0; filtered = 0 }
+abbrev pub progress : {S : Type 0} → Said → S → (out : List ℤ) → (taken filtered : ℕ) → Progress S
+progress said s out taken filtered = record { said = said; state = s; out = out; taken = taken; filtered = filtered }
 
--- ---- one row of a burst
+abbrev pub isRefused : Said → Bool
+isRefused s = eqb (s .kind) 0
 
--- the row after those taken
-abbrev pub nextRow : Progress → (rows : List ℕ) → List ℕ
-nextRow p rows = take (p .scan .width) (drop (p .taken * p .scan .width) rows)
+-- of a row the burst says only a refusal
+abbrev pub rowSaid : Said → Said
+rowSaid s = cond (isRefused s) s (accepted [])
 
--- the L places after the filtered rows, lent to it as its output
-abbrev pub nextOut : Progress → List ℤ
-nextOut p = take (p .scan .width) (drop (p .filtered * p .scan .width) (p .out))
+-- the row after those taken, given with the L places after the filtered rows as its output
+abbrev pub nextLeft : {S : Type 0} → (row : S → List ℕ → List ℤ → Left S) → (l : ℕ) → Progress S → (rows : List ℕ) → Left S
+nextLeft row l p rows = row (p .state) (take l (drop (p .taken * l) rows)) (take l (drop (p .filtered * l) (p .out)))
 
--- the verdict on it, given alone
-abbrev pub nextSays : Progress → (rows : List ℕ) → Verdict
-nextSays p rows = rowSays (p .scan) (nextRow p rows) (p .samples) (p .sums) (length (nextOut p))
+-- what that row leaves, counted in: a row that is not refused was taken, and one with a number came out
+abbrev pub counted : {S : Type 0} → (l : ℕ) → Progress S → Left S → Progress S
+counted l p x =
+    progress (rowSaid (x .said)) (x .state) (paste (p .filtered * l) (x .out) (p .out)) (p .taken + cond (isRefused (x .said)) 0 1)
+    (p .filtered + length (x .said .values))
 
--- what arrives with it
-abbrev pub nextArrival : Progress → (rows : List ℕ) → Arrival
-nextArrival p rows = arrivalOf (p .scan) (nextRow p rows) (p .samples) (p .sums)
+-- n rows, up to one that is refused
+unfoldable pub feed : {S : Type 0} → (row : S → List ℕ → List ℤ → Left S) → (l n : ℕ) → Progress S → (rows : List ℕ) → Progress S
+feed row l zero p rows = p
+feed row l (suc n) p rows =
+    cond (isRefused (nextLeft row l p rows .said)) (counted l p (nextLeft row l p rows)) (feed row l n (counted l p (nextLeft row l p rows)) rows)
 
--- with it taken: scan, stores and its L places of the output are what it leaves given alone
-unfoldable pub oneMore : Progress → (rows : List ℕ) → Progress
-oneMore p rows =
-    record {
-      scan = rowIn (p .scan);
-      samples = samplesAfter (nextArrival p rows);
-      sums = sumsAfter (nextArrival p rows);
-      out = paste (p .filtered * p .scan .width) (outputAfter (nextArrival p rows) (nextOut p)) (p .out);
-      taken = p .taken + 1;
-      filtered = p .filtered + length (answerRow (rowAnswer (p .scan) Accepted));
-    }
+-- what it leaves: what is said has the rows taken and the filtered rows that came out as its values, also where it is a refusal
+abbrev pub withCounts : Said → (taken filtered : ℕ) → Said
+withCounts s taken filtered = record { kind = s .kind; number = s .number; place = s .place; values = pos taken ∷ pos filtered ∷ [] }
 
--- ---- a burst
+abbrev pub burstLeft : {S : Type 0} → Progress S → Left S
+burstLeft p = left (withCounts (p .said) (p .taken) (p .filtered)) (p .state) (p .out)
 
--- what a burst comes to: accepted, or the refusal where it stops, and what the rows before that left
-pub record Outcome : Type 0 where
-  pub verdict : Verdict
-  pub progress : Progress
+-- all rows of a slice of rows of l samples
+abbrev pub allRows : {S : Type 0} → (row : S → List ℕ → List ℤ → Left S) → (l : ℕ) → S → (rows : List ℕ) → (out : List ℤ) → Left S
+allRows row l s rows out = burstLeft (feed row l (length rows / l) (progress (accepted []) s out 0 0) rows)
 
-abbrev pub ends : Verdict → Progress → Outcome
-ends v p = record { verdict = v; progress = p }
+-- a burst that is refused before its first row
+abbrev pub noRows : {S : Type 0} → S → (out : List ℤ) → (number place : ℕ) → Left S
+noRows s out number place = burstLeft (progress (refused number place) s out 0 0)
 
--- n rows one by one, up to one that is refused
-unfoldable pub give : (n : ℕ) → Progress → (rows : List ℕ) → Outcome
-give zero p rows = ends Accepted p
-give (suc n) p rows = by (nextSays p rows) (give n (oneMore p rows) rows) (ends (nextSays p rows) p)
+-- ---- a burst of rows of a scan
 
--- the questions before the first row: 14, 15, 21 that the slice holds whole rows, and 13 that the output is as long as the slice
-unfoldable pub burstAsked : Scan → (rows out : ℕ) → Verdict
-burstAsked s rows out =
-    ask 14 (agrees s) (ask 15 (not (s .closed)) (ask 21 (eqb (rows % s .width) 0) (ask 13 (leb rows out) Accepted)))
+-- 14, 15, 21 that the slice holds whole rows, and 13 that the output is as long as the slice
+unfoldable pub burstAsks : Scan → (rows out : ℕ) → List Question
+burstAsks s rows out = asks 14 (agrees s) ∷ asks 15 (not (s .closed)) ∷ asks 21 (eqb (rows % s .width) 0) ∷ asks 13 (leb rows out) ∷ []
 
--- a burst: the questions, then its rows
-unfoldable pub burstOf : Scan → (rows samples sums : List ℕ) → List ℤ → Outcome
-burstOf s rows samples sums out =
-    by (burstAsked s (length rows) (length out)) (give (length rows / s .width) (noneTaken s samples sums out) rows)
-    (ends (burstAsked s (length rows) (length out)) (noneTaken s samples sums out))
+-- the questions before the first row, then the rows, each as the call of a row takes it
+unfoldable pub burstOf : World → (rows : List ℕ) → (out : List ℤ) → Left World
+burstOf w rows out = firstNo (burstAsks (w .scan) (length rows) (length out)) (noRows w out) (allRows rowOf (w .scan .width) w rows out)
 
--- the answer: the verdict, how many rows were taken, how many filtered rows came out, and the scan after them
-abbrev pub answerOf : Outcome → Burst
-answerOf o =
-    record { verdict = o .verdict; taken = o .progress .taken; filtered = o .progress .filtered; scan = o .progress .scan }
-
--- ---- a row's answer in a burst
-
--- a row's answer as a verdict: accepted where the row was taken, whether a filtered row is out or none is due yet
-abbrev pub rowVerdict : Answer → Verdict
-rowVerdict (Row r) = Accepted
-rowVerdict Waiting = Accepted
-rowVerdict (RowRefused number place) = Refused number place
-
--- a burst's answer with one row's counted in, and the scan after that row
-abbrev pub counted : Burst → Answer → Scan → Burst
-counted b a s =
-    record {
-      verdict = rowVerdict a;
-      taken = b .taken + by (rowVerdict a) 1 0;
-      filtered = b .filtered + length (answerRow a);
-      scan = s;
-    }
+-- a burst's answer in the papers' numbers
+abbrev pub burstSaid : Burst → Said
+burstSaid b = withCounts (said (b .verdict)) (b .taken) (b .filtered)

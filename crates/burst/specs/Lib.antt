@@ -1,2 +1,1 @@
 pub mod Bursts
-pub mod OneByOne

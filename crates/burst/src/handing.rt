@@ -1,20 +1,22 @@
 // Rows handed over together.
 ghost use mathlib.Core.Path.{_≡_};
-ghost use mathlib.Core.Bool.{true, false};
-ghost use Prim.Native.Nat.{_*_, _≤_, _<_};
+ghost use mathlib.Core.Bool.{cond};
+ghost use mathlib.Core.List.{[]};
+ghost use Prim.Native.Nat.{_+_, _*_, _≤_, _<_};
 ghost use lib.ListN.{length};
-ghost use Rattle.arrival.specs.Arrivals.{by};
-ghost use Rattle.burst.specs.Bursts.{noneTaken, give, burstAsked, burstOf, answerOf, counted};
+ghost use Rattle.layout.specs.Answers.{accepted, said, answerSaid, verdict, left};
+ghost use Rattle.scan.specs.Calls.{world, rowOf};
+ghost use Rattle.burst.specs.Bursts.{progress, isRefused, rowSaid, feed, burstAsks, burstOf, burstSaid};
 use crate::Burst;
+use layout::Answer;
 use layout::Verdict;
-use scan::Answer;
 use scan::Moved;
 use scan::Scan;
 use scan::state_good;
 
 // The questions before the first row, on the lengths of the slice and of the output.
 fn asked(s: Scan, rows: usize, out: usize) -> Verdict
-    ensures { λ v. ⌜ v ≡ burstAsked s rows out ⌝ }
+    ensures { λ v. ⌜ v ≡ verdict (burstAsks s rows out) ⌝ }
 {
     if !state_good(s) {
         return Verdict::Refused(14, 0);
@@ -46,7 +48,9 @@ fn begun(verdict: Verdict, scan: Scan) -> Burst
 // One row's answer, counted.
 fn count(b: Burst, m: Moved) -> Burst
     requires { ⌜ (b .taken < 18446744073709551615) × (b .filtered < 18446744073709551615) ⌝ }
-    ensures { λ r. ⌜ r ≡ counted b (m .answer) (m .scan) ⌝ }
+    ensures { λ r. ⌜ (said (r .verdict) ≡ rowSaid (answerSaid (m .answer))) × (r .scan ≡ m .scan) ⌝ }
+    ensures { λ r. ⌜ r .taken ≡ b .taken + cond (isRefused (answerSaid (m .answer))) 0 1 ⌝ }
+    ensures { λ r. ⌜ r .filtered ≡ b .filtered + length (answerSaid (m .answer) .values) ⌝ }
 {
     let answer = m.answer;
     let scan = m.scan;
@@ -74,7 +78,7 @@ fn count(b: Burst, m: Moved) -> Burst
 
 // Whether a verdict is a refusal.
 fn refuses(v: Verdict) -> bool
-    ensures { λ r. ⌜ r ≡ by v false true ⌝ }
+    ensures { λ r. ⌜ r ≡ isRefused (said v) ⌝ }
 {
     match v {
         Verdict::Accepted => false,
@@ -93,15 +97,13 @@ fn each(
     out: &mut [i32],
 ) -> Burst
     requires { ⌜ (n * s .width ≤ length (now rows)) × (n * s .width ≤ length (now out)) × (s .rows ≤ 65535) × (s .width ≤ 1024) ⌝ }
-    ensures { λ r. ⌜ r ≡ answerOf (give n (noneTaken s (now (samples .entry)) (now (sums .entry)) (now (out .entry))) (now (rows .entry))) ⌝ }
-    ensures { λ _. ⌜ now (samples .exit) ≡ give n (noneTaken s (now (samples .entry)) (now (sums .entry)) (now (out .entry))) (now (rows .entry)) .progress .samples ⌝ }
-    ensures { λ _. ⌜ now (sums .exit) ≡ give n (noneTaken s (now (samples .entry)) (now (sums .entry)) (now (out .entry))) (now (rows .entry)) .progress .sums ⌝ }
-    ensures { λ _. ⌜ now (out .exit) ≡ give n (noneTaken s (now (samples .entry)) (now (sums .entry)) (now (out .entry))) (now (rows .entry)) .progress .out ⌝ }
+    ensures { λ r. ⌜ progress (said (r .verdict)) (world (r .scan) (now (samples .exit)) (now (sums .exit))) (now (out .exit)) (r .taken) (r .filtered)
+        ≡ feed rowOf (s .width) n (progress (accepted []) (world s (now (samples .entry)) (now (sums .entry))) (now (out .entry)) 0 0) (now (rows .entry)) ⌝ }
 {
+    let width = s.width;
     let mut b = begun(Verdict::Accepted, s);
     while b.taken < n {
         let before = b.scan;
-        let width = before.width;
         let at = b.taken * width;
         let to = b.filtered * width;
         let m = scan::row(
@@ -123,10 +125,8 @@ fn each(
 // A burst of rows: questions 14, 15, 21 and 13, then each row with its own. It stops at a refused row, with what the rows
 // before it left.
 pub fn rows(s: Scan, rows: &[u16], samples: &mut [u16], sums: &mut [u32], out: &mut [i32]) -> Burst
-    ensures { λ r. ⌜ r ≡ answerOf (burstOf s (now (rows .entry)) (now (samples .entry)) (now (sums .entry)) (now (out .entry))) ⌝ }
-    ensures { λ _. ⌜ now (samples .exit) ≡ burstOf s (now (rows .entry)) (now (samples .entry)) (now (sums .entry)) (now (out .entry)) .progress .samples ⌝ }
-    ensures { λ _. ⌜ now (sums .exit) ≡ burstOf s (now (rows .entry)) (now (samples .entry)) (now (sums .entry)) (now (out .entry)) .progress .sums ⌝ }
-    ensures { λ _. ⌜ now (out .exit) ≡ burstOf s (now (rows .entry)) (now (samples .entry)) (now (sums .entry)) (now (out .entry)) .progress .out ⌝ }
+    ensures { λ r. ⌜ left (burstSaid r) (world (r .scan) (now (samples .exit)) (now (sums .exit))) (now (out .exit))
+        ≡ burstOf (world s (now (samples .entry)) (now (sums .entry))) (now (rows .entry)) (now (out .entry)) ⌝ }
 {
     let v = asked(s, rows.len(), out.len());
     match v {

@@ -2,7 +2,7 @@ use Rattle.scan.proofs.States.{agreed}
 use Rattle.scan.specs.Calls.{agrees}
 use Rattle.arrival.proofs.Answered.{yes, no}
 use Rattle.rule.proofs.Asked.{width-bounds}
-use Rattle.burst.specs.Bursts.{burstAsked}
+use Rattle.burst.specs.Bursts.{burstAsks}
 use borrow.Author.Tests.{le-leb, lt-leb, eq-eqb, ne-eqb}
 use mathlib.Core.Bool.{true}
 use mathlib.Core.Path.{_≡_, refl}
@@ -23,12 +23,12 @@ state-good-requires c κs = search needs
 
 -- src/handing.rt:20:9
 returns : tie.Need-returns
-unfolding burstAsked
+unfolding burstAsks
 returns c = rw (no (c .before .state-good .ensures) (c .if1 .taken)) refl
 
 -- src/handing.rt:23:9
 returns-2 : tie.Need-returns-2
-unfolding burstAsked
+unfolding burstAsks
 returns-2 c = let u = c .before in
     rw (yes (u .before .state-good .ensures) (u .if1 .left), c .if2 .taken) refl
 
@@ -38,20 +38,20 @@ rem-if3 c = width-bounds (agreed _ (state (c .before)) .width) .0
 
 -- src/handing.rt:26:9
 returns-3 : tie.Need-returns-3
-unfolding burstAsked
+unfolding burstAsks
 returns-3 c = let w = c .before .before in
     rw (state w, w .if2 .left, ne-eqb _ _ (c .if3 .taken)) refl
 
 -- src/handing.rt:29:9
 returns-4 : tie.Need-returns-4
-unfolding burstAsked
+unfolding burstAsks
 returns-4 c = let x = c .before in
     let w = x .before .before in
     rw (state w, w .if2 .left, eq-eqb _ _ (x .if3 .left), lt-leb _ _ (c .if4 .taken)) refl
 
 -- src/handing.rt:16:1
 returns-5 : tie.Need-returns-5
-unfolding burstAsked
+unfolding burstAsks
 returns-5 c = let x = c .before in
     let w = x .before .before in
     rw (state w, w .if2 .left, eq-eqb _ _ (x .if3 .left), le-leb _ _ (c .if4 .left)) refl

@@ -1,5 +1,5 @@
 use native.Mathlib.Nat.{add-zero}
-use mathlib.Core.Path.{refl}
+use mathlib.Core.Path.{refl, sym}
 use borrow.Author.Needs.{needs}
 use Rattle.burst.proofs.handing.count.Statement.{statement}
 use Rattle.burst.proofs.handing.count.Tie as tie
@@ -30,19 +30,14 @@ add-t12 c = search needs
 enum-known-answer : tie.Need-enum-known-answer
 enum-known-answer c = search needs
 
--- src/handing.rt:47:1
 returns : tie.Need-returns
-returns c = rw (c .before .before .enum-told .given .1) refl
+returns c = let e = c .before .before .enum-told .given .1 in ((rw e refl, refl), (rw e refl, rw e refl))
 
--- src/handing.rt:47:1
 returns-2 : tie.Need-returns-2
-returns-2 c = let b = c .before .before .before .before .args .b in
-    rw (c .before .enum-told2 .given .1, add-zero (b .filtered)) refl
+returns-2 c = let e = c .before .enum-told2 .given .1 in ((rw e refl, refl), (rw e refl, rw e (sym (add-zero _))))
 
--- src/handing.rt:47:1
 returns-3 : tie.Need-returns-3
-returns-3 c = let b = c .before .before .before .before .args .b in
-    rw (c .before .answer .given .1, add-zero (b .taken), add-zero (b .filtered)) refl
+returns-3 c = let e = c .before .answer .given .1 in ((rw e refl, refl), (rw e (sym (add-zero _)), rw e (sym (add-zero _))))
 
 pub count-spec : {M : Type 1} → statement M
 count-spec =

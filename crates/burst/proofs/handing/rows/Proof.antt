@@ -1,8 +1,15 @@
 use Rattle.layout.specs.declared.Verdict.the-variants.{Accepted}
-use Rattle.burst.specs.Bursts.{burstAsked, burstOf}
-use Rattle.burst.proofs.Entries.{Entered, entered, rows-in, rows-out, none-taken}
+use Rattle.layout.specs.Answers.{Said, said, verdict, left}
+use Rattle.layout.proofs.Questions.{first-verdict}
+use Rattle.scan.specs.declared.Scan.{Scan}
+use Rattle.scan.specs.Calls.{world}
+use Rattle.burst.specs.Bursts.{withCounts, burstLeft, burstAsks, burstOf}
+use Rattle.burst.proofs.Entries.{Entered, entered, rows-in, rows-out}
+use Prim.Native.Nat.{ℕ}
+use mathlib.Core.List.{List}
+use lib.IntN.{ℤ}
 use lib.ListN.{length}
-use mathlib.Core.Path.{_≡_, refl, sym, _∙_}
+use mathlib.Core.Path.{_≡_, refl, sym, ap, _∙_}
 use borrow.Author.Needs.{needs}
 use Rattle.burst.proofs.handing.rows.Statement.{statement}
 use Rattle.burst.proofs.handing.rows.Tie as tie
@@ -16,11 +23,17 @@ use Rattle.burst.proofs.handing.each.Reads as each-reads
 abbrev start : tie.After-enum-told2 → tie.Start
 start c = c .before .before .before .before .before .before
 
-accepted : (c : tie.After-enum-told2) → burstAsked (start c .args .s) (length (start c .args .rows .now)) (length (start c .args .out .now)) ≡ Accepted
+accepted : (c : tie.After-enum-told2) → verdict (burstAsks (start c .args .s) (length (start c .args .rows .now)) (length (start c .args .out .now))) ≡ Accepted
 accepted c = sym (c .before .before .asked .ensures) ∙ c .enum-told2 .given .1
 
 enters : (c : tie.After-enum-told2) → Entered (start c .args .s) (length (start c .args .rows .now)) (length (start c .args .out .now))
 enters c = entered _ _ _ (accepted c)
+
+-- a burst that takes no row
+same-left : {v v′ : Said} {taken taken′ filtered filtered′ : ℕ} {s s′ : Scan} {samples sums : List ℕ} {out : List ℤ}
+    → v ≡ v′ → taken ≡ taken′ → filtered ≡ filtered′ → s ≡ s′
+    → left (withCounts v taken filtered) (world s samples sums) out ≡ left (withCounts v′ taken′ filtered′) (world s′ samples sums) out
+same-left e f g h = rw (e, f, g, h) refl
 
 -- src/handing.rt:118:9
 asked-requires : tie.Need-asked-requires
@@ -51,9 +64,11 @@ each-requires c κs = let m = c .before .before .before .before in
 -- src/handing.rt:112:1
 returns : tie.Need-returns
 unfolding burstOf
-returns c = let r = sym (c .before .before .before .asked .ensures) ∙ c .before .enum-told .given .1 in
+returns c = let v = c .before .enum-told .given .1 in
+    let a = c .before .before .before .before .before .before .before .args in
     let e = c .begun .ensures in
-    (rw r (none-taken (c .begun .result) _ _ (e .0 ∙ c .before .enum-told .given .1) (e .1) (e .2) (e .3)), (rw r refl, (rw r refl, rw r refl)))
+    rw (first-verdict (burstAsks (a .s) (length (a .rows .now)) (length (a .out .now))), sym (c .before .before .before .asked .ensures) ∙ v)
+    (same-left (ap said (e .0 ∙ v)) (e .1) (e .2) (e .3))
 
 -- src/handing.rt:112:1
 same-length : tie.Need-same-length
@@ -71,9 +86,9 @@ same-length-3 c = search needs
 returns-2 : tie.Need-returns-2
 unfolding burstOf
 returns-2 c = let m = c .before .before .before .before .before in
-    let r = accepted (m .before .before .before .before .before) in
-    let e = m .each .ensures in
-    (rw r (e .0), (rw r (e .1 .0), (rw r (e .1 .1 .0), rw r (e .1 .1 .1))))
+    let b = m .before .before .before .before .before in
+    let a = start b .args in
+    rw (first-verdict (burstAsks (a .s) (length (a .rows .now)) (length (a .out .now))), accepted b) (ap burstLeft (m .each .ensures))
 
 pub rows-spec : {M : Type 1} → statement M
 rows-spec =
