@@ -31,14 +31,13 @@ use Rattle.limits.proofs.Granted.{Granted, granted}
 use Rattle.rule.specs.Sums.{Scan, HasBits, covered, columnSum, windowSum, cutSum, scaledSum}
 use Rattle.rule.specs.Pixels.{cutValue, pixelOf}
 use Rattle.rule.proofs.Fitting.{column-most}
-use Rattle.layout.specs.declared.Verdict.the-variants.{Accepted}
-use Rattle.rule.specs.Questions.{askEach}
 use Rattle.arith.proofs.Bools.{true-of}
 use Rattle.run.proofs.Grids.{grid-at}
-use Rattle.arrival.specs.Arrivals.{Arrival, arrivalSays, sumsAfter, rowAt, edgeRow, cutAt, leaving, entering, stored, newSum, sumMost, sumGood, lineAt, windowAt, scaledAt, pixelAt}
+use Rattle.arrival.specs.Arrivals.{Arrival, sumsAfter, rowAt, edgeRow, cutAt, leaving, entering, stored, newSum, sumMost, sumGood, lineAt, windowAt, scaledAt, pixelAt}
 use Rattle.rule.proofs.Depends.{lead-most}
 use Rattle.arrival.proofs.Delays.{delay-most}
-use Rattle.run.proofs.Columns.{slide, leaving-row, entering-row, due-row, next-row}
+use Rattle.rule.proofs.Slides.{column-slide}
+use Rattle.run.proofs.Columns.{leaving-row, entering-row, due-row, next-row}
 use Rattle.run.specs.Holds.{Kept}
 use Rattle.run.proofs.Kept.{row-is}
 
@@ -132,7 +131,7 @@ module _ (x : Scan) (v : Arrival) (f : Finds x v) where
         let e = entering-is c l in
         let s = f .sums k c lk l in
         let h = leaving-in c l in
-        let w = slide t x d before (pos c) in
+        let w = column-slide t x d before (pos c) in
         let n = ap (λ z. columnSum t x d z (pos c)) (due-row (v .number) (delayOf t)) in
         omega arith
 
@@ -166,10 +165,10 @@ module _ (x : Scan) (v : Arrival) (f : Finds x v) where
   pixel-is c = ap (λ z. floorDiv z (t .t)) (sumℤ-cong (t .count) (λ k l. ap (λ s. rect t k .weight *ℤ pos s) (scaled-is k l c)))
 
   -- question 19 of the whole arrival
-  pub says-accepted : arrivalSays v ≡ Accepted
-  unfolding arrivalSays askEach
-  says-accepted =
-      rw (true-of (all (t .count) (λ k. all (v .width) (sumGood v k))) (all-of (t .count) (λ k. all (v .width) (sumGood v k)) (λ k l. all-of (v .width) (sumGood v k) (sum-good k l)))) refl
+  pub sums-good : all (t .count) (λ k. all (v .width) (sumGood v k)) ≡ true
+  sums-good =
+      true-of (all (t .count) (λ k. all (v .width) (sumGood v k)))
+      (all-of (t .count) (λ k. all (v .width) (sumGood v k)) (λ k l. all-of (v .width) (sumGood v k) (sum-good k l)))
 
   -- what the next arrival finds in the sum store
   pub sums-next : (k c : ℕ) → k < t .count → c < v .width

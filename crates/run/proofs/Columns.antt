@@ -1,4 +1,4 @@
--- Column sums move on by a row: the leaving sample off, the entering one on.
+-- The rows of an arrival: those that the edges reach, and the one that is due.
 -- Assumes nothing.
 use Prim.Native.Nat.{ℕ, suc, _+_, _-_, _*_, _/_, _^_, _≤_, _<_}
 use native.Mathlib.Omega.{arith}
@@ -15,28 +15,7 @@ use Rattle.layout.specs.Measure.{rowsOf, colsOf, delayOf}
 use Rattle.limits.proofs.Bounds.{Edges, extent, RectBounds}
 use Rattle.rule.specs.Sums.{Scan, covered, columnSum}
 
--- a row further down
-pub covered-next : (r trail : ℤ) (i : ℕ) → covered (r +ℤ pos 1) trail i ≡ covered r trail (suc i)
-unfolding covered
-covered-next r trail i =
-    let p = diff-parts r in
-    let q = diff-parts trail in
-    diff-eq (diff-add (diff-add (diff-add p (diff-pos 1)) q) (diff-pos (suc i))) (diff-add (diff-add p q) (diff-pos (suc (suc i)))) (omega arith)
-
--- the sum of the next row, with the leaving sample, is the sum of this one with the entering sample
-pub slide :
-    (t : Table) (x : Scan) (d : Rect) (r j : ℤ)
-    → columnSum t x d r j + x (covered r (d .trailrow) (rowsOf d)) j / 2 ^ t .q1
-    ≡ x (covered r (d .trailrow) 0) j / 2 ^ t .q1 + columnSum t x d (r +ℤ pos 1) j
-unfolding columnSum
-slide t x d r j =
-    let g : ℕ → ℕ = λ i. x (covered r (d .trailrow) i) j / 2 ^ t .q1 in
-    let n = sum-cong (rowsOf d) {f = λ i. x (covered (r +ℤ pos 1) (d .trailrow) i) j / 2 ^ t .q1} {g = λ i. g (suc i)} (λ i l. ap (λ z. x z j / 2 ^ t .q1) (covered-next r (d .trailrow) i)) in
-    let a = sum-first (rowsOf d) g in
-    let b = sum-suc (rowsOf d) g in
-    omega arith
-
--- ---- the rows that the edges reach at arrival a, from the sum of the arrival before
+-- the rows that the edges reach at arrival a, from the sum of the arrival before
 
 pub leaving-row : (a delay : ℕ) (trail : ℤ) → covered (subℕ a (suc delay)) trail 0 ≡ (pos a -ℤ pos delay) +ℤ trail
 unfolding covered

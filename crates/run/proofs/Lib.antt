@@ -1,9 +1,9 @@
+pub mod Grids
 pub mod Columns
 pub mod Kept
-pub mod Grids
 pub mod Arrives
 pub mod Stores
-pub mod Calls
 pub mod Rows
-pub mod Others
-pub mod Theorems
+pub mod Starts
+pub mod Alike
+pub mod Sequences

@@ -10,14 +10,14 @@ use lib.Dec.{T, leb, ltb, eqb, eqb→eq, leb→le, le→leb, ltb→lt, nltb→le
 use lib.IntN.{ℤ, pos, negsuc}
 use lib.ListN.{length, getD, length-append, List·getD-append, List·getD-eq-default}
 use lib.Seq.{getD-append-add}
-use mir.Facts.{and-yes}
+use mir.Facts.{and-yes, yes-and}
 use borrow.Author.Tests.{lt-ltb, le-ltb}
 use Rattle.arith.specs.All.{all}
 use Rattle.arith.proofs.Alls.{all-at, all-of}
 use Rattle.rule.proofs.Asked.{has-bits}
 use Rattle.rule.specs.Questions.{atMost}
 use Rattle.rule.specs.Sums.{HasBits, sampleAt}
-use Rattle.run.specs.Runs.{flat, goodRows}
+use Rattle.run.specs.Rows.{flat, scanned, goodRows}
 use Rattle.run.proofs.Arrives.{Lies}
 
 -- rows that are good
@@ -111,3 +111,49 @@ below l b rows h i c p = go (ltb c l)
         let m = mul-le-mul-right l p in
         List·getD-eq-default (flat rows) 0 {n = i * l + c} (omega arith)
     go false = refl
+
+-- ---- rows after rows
+
+pub flat-append : (rows more : List (List ℕ)) → flat (rows ++ more) ≡ flat rows ++ flat more
+unfolding flat
+flat-append [] more = refl
+flat-append (row ∷ rows) more = ap (λ r. row ++ r) (flat-append rows more) ∙ sym (append-assoc row (flat rows) (flat more))
+
+pub good-append : (l b : ℕ) (rows more : List (List ℕ)) → T (goodRows l b rows) → T (goodRows l b more) → T (goodRows l b (rows ++ more))
+unfolding goodRows
+good-append l b [] more h g = g
+good-append l b (row ∷ rows) more h g =
+    let a = and-yes (eqb (length row) l) _ h in
+    let c = and-yes (all (length row) (atMost (2 ^ b - 1) row)) (goodRows l b rows) (a .1) in
+    yes-and (eqb (length row) l) _ (a .0) (yes-and (all (length row) (atMost (2 ^ b - 1) row)) _ (c .0) (good-append l b rows more (c .1) g))
+
+pub good-one : (l b : ℕ) (row : List ℕ) → eqb (length row) l ≡ true → all (length row) (atMost (2 ^ b - 1) row) ≡ true → T (goodRows l b (row ∷ []))
+unfolding goodRows
+good-one l b row e f = rw (e, f) tt
+
+-- a scan with more rows is the same in the rows before them, above the scan, and beside it
+module _ (l b : ℕ) (rows more : List (List ℕ)) (h : T (goodRows l b rows)) where
+  pub more-agrees : (e : ℕ) (j : ℤ) → e < length rows → scanned l rows (pos e) j ≡ scanned l (rows ++ more) (pos e) j
+  unfolding sampleAt
+  more-agrees e (negsuc j) p = refl
+  more-agrees e (pos j) p = go (ltb j l) (ltb→lt j l)
+    where
+      go : (y : Bool) → (T y → j < l) → cond y (getD (flat rows) (e * l + j) 0) 0 ≡ cond y (getD (flat (rows ++ more)) (e * l + j) 0) 0
+      go true q =
+          let n = flat-length l b rows h in
+          let k = mul-le-mul-right l p in
+          let i = q tt in
+          rw (flat-append rows more) (sym (List·getD-append (flat rows) (flat more) 0 (e * l + j) (omega arith)))
+      go false q = refl
+
+  pub more-above : (i : ℕ) (j : ℤ) → scanned l rows (negsuc i) j ≡ scanned l (rows ++ more) (negsuc i) j
+  unfolding sampleAt
+  more-above i j = refl
+
+-- the last of the rows
+pub last-row : (l b : ℕ) (rows : List (List ℕ)) (row : List ℕ) → T (goodRows l b rows) → length row ≡ l → (c : ℕ) → c < l
+    → getD row c 0 ≡ scanned l (rows ++ (row ∷ [])) (pos (length rows)) (pos c)
+unfolding sampleAt flat
+last-row l b rows row h long c q =
+    let e : length rows * l + c ≡ length (flat rows) + c = ap (λ n. n + c) (sym (flat-length l b rows h)) in
+    rw (lt-ltb c l q, flat-append rows (row ∷ []), e, getD-append-add (flat rows) (row ++ []) c 0) (sym (List·getD-append row [] 0 c (omega arith)))

@@ -10,22 +10,22 @@ use lib.Dec.{ltb}
 use lib.IntN.{ℤ, pos, subℕ}
 use lib.ListN.{length, getD, take, drop, length-append, length-drop}
 use lib.Seq.{length-take-le, take-at}
+use Rattle.arith.specs.All.{all}
 use Rattle.arith.specs.Tab.{tab, grid, paste}
 use Rattle.arith.proofs.Passes.{length-grid, pass-length}
 use Rattle.arith.proofs.Tabs.{length-tab, tab-cong}
 use Rattle.arith.proofs.Ints.{sub-high}
 use Rattle.layout.specs.declared.Table.{Table}
-use Rattle.layout.specs.declared.Verdict.the-variants.{Accepted}
 use Rattle.layout.specs.Contents.{rect}
 use Rattle.layout.specs.Measure.{delayOf}
 use Rattle.limits.specs.Limits.{acceptable}
 use Rattle.rule.specs.Sums.{Scan, columnSum}
 use Rattle.rule.specs.Pixels.{pixelOf}
 use borrow.Author.Tests.{lt-ltb, le-ltb}
-use Rattle.arrival.specs.Arrivals.{Arrival, stored, newSum, arrivalSays, pixelAt, samplesAfter, sumsAfter, outputAfter}
+use Rattle.arrival.specs.Arrivals.{Arrival, stored, newSum, sumGood, pixelAt, samplesAfter, sumsAfter, outputAfter}
 use Rattle.run.specs.Holds.{Kept, Stores}
 use Rattle.run.proofs.Kept.{kept-next}
-use Rattle.run.proofs.Arrives.{Lies, Finds, pixel-is, says-accepted, sums-next}
+use Rattle.run.proofs.Arrives.{Lies, Finds, pixel-is, sums-good, sums-next}
 
 module _ (t : Table) (l : ℕ) (x : Scan) (a : ℕ) (row samples sums : List ℕ) where
   -- what arrives
@@ -37,8 +37,8 @@ module _ (t : Table) (l : ℕ) (x : Scan) (a : ℕ) (row samples sums : List ℕ
     unfolding stored
     finds = record { table = ok; lies = lies; row = is; kept = st .kept; sums = st .carried }
 
-    pub accepted : arrivalSays v ≡ Accepted
-    accepted = says-accepted x v finds
+    pub all-good : all (t .count) (λ k. all l (sumGood v k)) ≡ true
+    all-good = sums-good x v finds
 
     samples-same : length row ≡ l → length (samplesAfter v) ≡ length samples
     unfolding samplesAfter paste

@@ -1,10 +1,9 @@
--- What the theorem on runs takes, and what the stores of a run hold.
+-- What the stores of a scan hold after its arrivals.
 -- Assumes nothing.
 use Prim.Native.Nat.{ℕ, suc, _+_, _*_, _%_, _≤_, _<_}
 use mathlib.Core.Path.{_≡_}
 use mathlib.Core.Bool.{true}
 use mathlib.Core.List.{List}
-use lib.Dec.{T}
 use lib.IntN.{ℤ, pos, subℕ}
 use lib.ListN.{length, getD}
 use Rattle.layout.specs.declared.Table.{Table}
@@ -14,17 +13,12 @@ use Rattle.limits.specs.Limits.{acceptable}
 use Rattle.rule.specs.Questions.{widthGood}
 use Rattle.rule.specs.Sums.{Scan, columnSum}
 use Rattle.arrival.specs.Arrivals.{storesGood}
-use Rattle.run.specs.Runs.{goodRows}
 
--- a table that loading accepts, a width from 1 to 1,024, stores and an output long enough, whatever they hold, and at most 65,535 rows of L
--- samples of b bits
-pub record Runs (t : Table) (l : ℕ) (samples sums : List ℕ) (out : List ℤ) (rows : List (List ℕ)) : Type 0 where
+-- what starting accepts: a table that loading accepts, a width from 1 to 1,024, and stores long enough, whatever they hold
+pub record Starts (t : Table) (l : ℕ) (samples sums : List ℕ) : Type 0 where
   pub table : acceptable t ≡ true
   pub width : widthGood l ≡ true
   pub stores : storesGood l (t .count) (length samples) (length sums) ≡ true
-  pub output : l ≤ length out
-  pub good-rows : T (goodRows l (t .b) rows)
-  pub few : length rows ≤ 65535
 
 -- the sample store holds each of the last 32 of a arrivals from its place on
 unfoldable pub Kept : (l : ℕ) → Scan → (a : ℕ) → List ℕ → Type 0

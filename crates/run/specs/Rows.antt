@@ -1,0 +1,29 @@
+-- The rows of a scan.
+-- Assumes nothing.
+use Prim.Native.Nat.{ℕ, zero, suc, _-_, _*_, _^_}
+use mathlib.Core.Bool.{Bool, true, _&&_}
+use mathlib.Core.List.{List, [], _∷_, _++_}
+use lib.Dec.{eqb}
+use lib.ListN.{length, take, drop}
+use Rattle.arith.specs.All.{all}
+use Rattle.rule.specs.Questions.{atMost}
+use Rattle.rule.specs.Sums.{Scan, sampleAt}
+
+-- rows one after the other
+unfoldable pub flat : List (List ℕ) → List ℕ
+flat [] = []
+flat (row ∷ rows) = row ++ flat rows
+
+-- the scan of these rows: zeros after the last of them
+abbrev pub scanned : (l : ℕ) → (rows : List (List ℕ)) → Scan
+scanned l rows = sampleAt l (flat rows)
+
+-- rows of l samples of b bits each
+unfoldable pub goodRows : (l b : ℕ) → List (List ℕ) → Bool
+goodRows l b [] = true
+goodRows l b (row ∷ rows) = eqb (length row) l && (all (length row) (atMost (2 ^ b - 1) row) && goodRows l b rows)
+
+-- the first n rows of l samples of a slice
+unfoldable pub rowsOfSlice : (l n : ℕ) → List ℕ → List (List ℕ)
+rowsOfSlice l zero xs = []
+rowsOfSlice l (suc n) xs = rowsOfSlice l n xs ++ (take l (drop (n * l) xs) ∷ [])
