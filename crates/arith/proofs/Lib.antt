@@ -14,3 +14,4 @@ pub mod Every
 pub mod Logs
 pub mod Parts
 pub mod Bias
+pub mod Grids

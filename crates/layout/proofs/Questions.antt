@@ -75,3 +75,7 @@ same-questions P (q ∷ qs) f a g b refusal accepted = go (same-questions P qs f
         → P (cond y (firstNo qs f a) (f (q .number) (q .place))) (cond y (firstNo qs g b) (g (q .number) (q .place)))
     go later true e = later (λ all. accepted (e, all))
     go later false e = refusal (q .number) (q .place)
+
+-- what holds of every refusal, and of the call accepted with every answer known, holds of the call
+pub each-way : {A : Type 0} (P : A → Type 0) (qs : List Question) (f : ℕ → ℕ → A) (a : A) → ((n p : ℕ) → P (f n p)) → (AllYes qs → P a) → P (firstNo qs f a)
+each-way P qs f a refusal accepted = same-questions (λ x y. P x) qs f a f a refusal accepted

@@ -32,7 +32,7 @@ use Rattle.rule.specs.Sums.{Scan, HasBits, covered, columnSum, windowSum, cutSu
 use Rattle.rule.specs.Pixels.{cutValue, pixelOf}
 use Rattle.rule.proofs.Fitting.{column-most}
 use Rattle.arith.proofs.Bools.{true-of}
-use Rattle.run.proofs.Grids.{grid-at}
+use Rattle.arith.proofs.Grids.{grid-at}
 use Rattle.arrival.specs.Arrivals.{Arrival, sumsAfter, rowAt, edgeRow, cutAt, leaving, entering, stored, newSum, sumMost, sumGood, lineAt, windowAt, scaledAt, pixelAt}
 use Rattle.rule.proofs.Depends.{lead-most}
 use Rattle.arrival.proofs.Delays.{delay-most}
@@ -175,5 +175,5 @@ module _ (x : Scan) (v : Arrival) (f : Finds x v) where
       → getD (sumsAfter v) (k * v .width + c) 0 ≡ columnSum t x (rect t k) (subℕ (v .number + 1) (suc (delayOf t))) (pos c)
   unfolding sumsAfter
   sums-next k c lk l =
-      grid-at (t .count) (v .width) (newSum v) (drop (t .count * v .width) (v .sums)) k c lk l ∙ new-is k lk c l
+      grid-at (t .count) (v .width) (newSum v) (drop (t .count * v .width) (v .sums)) 0 k c lk l ∙ new-is k lk c l
       ∙ ap (λ z. columnSum t x (rect t k) z (pos c)) (sym (next-row (v .number) (delayOf t)))

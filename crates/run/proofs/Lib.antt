@@ -1,4 +1,3 @@
-pub mod Grids
 pub mod Columns
 pub mod Kept
 pub mod Arrives

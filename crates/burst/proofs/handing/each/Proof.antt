@@ -4,7 +4,7 @@ use Rattle.layout.specs.Answers.{Said, accepted, said, answerSaid, left}
 use Rattle.scan.specs.Calls.{World, world, rowOf}
 use Rattle.burst.specs.declared.Burst.{Burst}
 use Rattle.burst.specs.Bursts.{Progress, progress, isRefused, nextLeft, counted, feed}
-use Rattle.burst.proofs.Parts.{part-is, part-long, part-back}
+use Rattle.arith.proofs.Parts.{part-is, part-long, part-back}
 use Rattle.burst.proofs.Rests.{Rest, none-fed, all-fed, row-room, place-room, row-small, out-small, ends, goes-on, row-refused}
 use Prim.Native.Nat.{ℕ, _+_, _-_, _*_, _≤_, _<_}
 use mathlib.Core.Path.{_≡_, refl, sym, ap, ap₂, subst, _∙_}

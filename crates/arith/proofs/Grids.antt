@@ -1,0 +1,48 @@
+-- Lines of equal length one after the other.
+-- Assumes nothing.
+use Prim.Native.Nat.{ℕ, zero, suc, _+_, _*_, _≤_, _<_}
+use native.Mathlib.Nat.{not-suc-le-zero, le-suc-iff, suc-inj, le-step, lt-suc-self}
+use native.Mathlib.Omega.{arith}
+use mathlib.Core.Path.{_≡_, refl, sym, ap, ap₂, _∙_}
+use mathlib.Core.Logic.{⊎-elim}
+use mathlib.Core.List.{List, _++_, append-assoc}
+use lib.ListN.{length, getD, take, drop, List·getD-append}
+use lib.Seq.{getD-append-add, take-at, drop-at, drop-drop}
+use Rattle.arith.specs.Tab.{tab, grid, paste}
+use Rattle.arith.proofs.Tabs.{length-tab, getD-tab, tab-cong}
+use Rattle.arith.proofs.Passes.{length-grid, grid-suc}
+
+module _ {A : Type 0} where
+  -- place c of line k
+  pub grid-at : (n l : ℕ) (f : ℕ → ℕ → A) (rest : List A) (d : A) (k c : ℕ) → k < n → c < l → getD (grid n l f ++ rest) (k * l + c) d ≡ f k c
+  grid-at zero l f rest d k c h i = absurd (not-suc-le-zero h)
+  grid-at (suc n) l f rest d k c h i =
+      ap (λ xs. getD xs (k * l + c) d) (ap (λ xs. xs ++ rest) (grid-suc n l f) ∙ append-assoc (grid n l f) (tab l (f n)) rest)
+      ∙ ⊎-elim (grid-at n l f (tab l (f n) ++ rest) d k c) (λ (e : suc k ≡ suc n). last (suc-inj e)) (le-suc-iff .0 h) i
+    where
+      last : k ≡ n → c < l → getD (grid n l f ++ (tab l (f n) ++ rest)) (k * l + c) d ≡ f k c
+      last e j =
+          let m = length-grid n l f in
+          let w = length-tab l (f n) in
+          let q : n * l + c ≡ length (grid n l f) + c = omega arith in
+          rw e (ap (λ p. getD (grid n l f ++ (tab l (f n) ++ rest)) p d) q ∙ getD-append-add (grid n l f) (tab l (f n) ++ rest) c d
+          ∙ List·getD-append (tab l (f n)) rest d c (omega arith) ∙ getD-tab l (f n) c d j)
+
+  pub grid-cong : (n l : ℕ) {f g : ℕ → ℕ → A} → ((k c : ℕ) → k < n → c < l → f k c ≡ g k c) → grid n l f ≡ grid n l g
+  unfolding grid
+  grid-cong zero l h = refl
+  grid-cong (suc n) l h = ap₂ _++_ (grid-cong n l (λ k c p q. h k c (le-step p) q)) (tab-cong l (λ c q. h n c (lt-suc-self n) q))
+
+  -- one line more, pasted after those there are
+  pub grid-paste : (k l : ℕ) (f : ℕ → ℕ → A) (xs : List A) → paste (k * l) (tab l (f k)) (grid k l f ++ drop (k * l) xs) ≡ grid (suc k) l f ++ drop (suc k * l) xs
+  unfolding paste
+  grid-paste k l f xs =
+      let n = length-grid k l f in
+      let m = length-tab l (f k) in
+      let e : k * l + length (tab l (f k)) ≡ k * l + l = ap (λ i. k * l + i) m in
+      let s : k * l + l ≡ suc k * l = omega arith in
+      let b : drop (k * l + l) (grid k l f ++ drop (k * l) xs) ≡ drop (suc k * l) xs =
+      sym (drop-drop l (k * l) (grid k l f ++ drop (k * l) xs)) ∙ ap (drop l) (drop-at (grid k l f) (drop (k * l) xs) (k * l) n) ∙ drop-drop l (k * l) xs ∙ ap (λ i. drop i xs) s in
+      ap (λ i. take (k * l) (grid k l f ++ drop (k * l) xs) ++ tab l (f k) ++ drop i (grid k l f ++ drop (k * l) xs)) e
+      ∙ ap₂ (λ a c. a ++ tab l (f k) ++ c) (take-at (grid k l f) (drop (k * l) xs) (k * l) n) b
+      ∙ ap (λ g. g ++ drop (suc k * l) xs) (sym (grid-suc k l f))
