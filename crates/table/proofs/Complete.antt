@@ -4,7 +4,7 @@ use Prim.Native.Nat.{ℕ, zero, suc, _+_, _*_, _/_, _%_, _≤_, _<_}
 use native.Mathlib.Omega.{arith}
 use native.Mathlib.Nat.{div-add-mod'}
 use mathlib.Core.Path.{_≡_, refl, sym, ap, ap₂, _∙_, subst}
-use mathlib.Core.Bool.{Bool, true, _&&_}
+use mathlib.Core.Bool.{Bool, true, cond, _&&_}
 use mathlib.Core.List.{List, [], _∷_, _++_, append-assoc, append-nil}
 use lib.Dec.{T, leb, ltb, leb→le, ltb→lt}
 use lib.ListN.{length, getD, drop, length-append}
@@ -19,12 +19,12 @@ use Rattle.layout.specs.declared.Rect.{Rect}
 use Rattle.layout.specs.declared.Verdict.the-variants.{Accepted}
 use Rattle.layout.specs.Contents.{Contents, noRect}
 use Rattle.limits.specs.Limits.{bitsGood, dropsGood, wordGood, rectGood, valueGood, within}
-use Rattle.layout.specs.Answers.{ask}
-use Rattle.table.specs.Format.{Bytes, Outcome, loaded, after, marked, headOf, rectOf, plus, headerSays, fieldSays, fieldsOf, parseOf, fitOf, loadOf, encodeHead, encodeRect, encodeRects, encode}
-use Rattle.limits.specs.Limits.{headSays}
+use Rattle.layout.specs.Answers.{verdict}
+use Rattle.table.specs.Format.{Bytes, Outcome, loaded, refused, marked, headOf, rectOf, plus, headerAsks, fieldAsks, fieldsOf, parseOf, fitOf, loadOf, encodeHead, encodeRect, encodeRects, encode}
+use Rattle.limits.specs.Limits.{headAsks}
 use Rattle.limits.proofs.Bounds.{RectBounds, rect-bounds, edge-fits}
 use Rattle.table.proofs.Structs.{with-rects}
-use Rattle.table.proofs.Fields.{fields-end, fields-step}
+use Rattle.table.proofs.Fields.{fields-end, fields-step, parse-step}
 
 -- ---- one field
 
@@ -54,8 +54,8 @@ long : (r : Rect) (rest : List ℕ) → 9 ≤ length (encodeRect r ++ rest)
 unfolding encodeRect
 long r rest = omega arith
 
-field-read : (r : Rect) (rest : List ℕ) → Fine r → fieldSays (encodeRect r ++ rest) ≡ Accepted
-unfolding fieldSays marked encodeRect
+field-read : (r : Rect) (rest : List ℕ) → Fine r → verdict (fieldAsks (encodeRect r ++ rest)) ≡ Accepted
+unfolding fieldAsks marked encodeRect
 field-read r rest f =
     let l = long r rest in
     rw (read-back r rest f, le-leb 3 (length (encodeRect r ++ rest)) (omega arith), le-leb 9 (length (encodeRect r ++ rest)) l, true-of (rectGood r) (f .0))
@@ -88,14 +88,14 @@ fields-read (suc left) (r ∷ rs) c h f n =
 -- ---- the whole file
 
 head-read : (c : Contents) → bitsGood (c .b) ≡ true → dropsGood (c .b) (c .q1) (c .q2) (c .q3) ≡ true → wordGood (c .t) (c .w) ≡ true
-    → headerSays (encode c) ≡ Accepted
-unfolding headerSays headSays marked encode encodeHead
+    → verdict (headerAsks (encode c)) ≡ Accepted
+unfolding headerAsks headAsks marked encode encodeHead
 head-read c x y z = rw (le-leb 3 (length (encode c)) (omega arith), le-leb 9 (length (encode c)) (omega arith), x, y, z)
 
-parse-read : (c : Contents) → headerSays (encode c) ≡ Accepted → length (c .rects) ≤ 16 → Fines (c .rects) → 1 ≤ length (c .rects)
+parse-read : (c : Contents) → verdict (headerAsks (encode c)) ≡ Accepted → length (c .rects) ≤ 16 → Fines (c .rects) → 1 ≤ length (c .rects)
     → parseOf (encode c) ≡ loaded c
-unfolding parseOf encode encodeHead
-parse-read c h l f n = rw h (fields-read 16 (c .rects) (with-rects c []) l f n)
+unfolding encode encodeHead
+parse-read c h l f n = parse-step (encode c) ∙ rw h (fields-read 16 (c .rects) (with-rects c []) l f n)
 
 -- the parts of being within the limits
 pub record Within (c : Contents) : Type 0 where
@@ -131,7 +131,7 @@ unfolding loadOf
 load-read c t =
     let w = within-parts c t in
     ap fitOf (parse-read c (head-read c (w .bits) (w .drops) (w .word)) (w .most) (w .fine) (w .some))
-    ∙ ap (λ x. after (ask 10 x Accepted) (loaded c)) (w .value)
+    ∙ ap (λ x. cond x (loaded c) (refused 10 0)) (w .value)
 
 -- ---- the file is made of bytes
 

@@ -1,4 +1,4 @@
--- The equations of `fieldsOf`.
+-- The equations of `fieldsOf` and `parseOf`, by the verdicts of their questions.
 -- Assumes nothing.
 use Prim.Native.Nat.{ℕ, zero, suc, _<_, _≤_}
 use native.Mathlib.Omega.{arith}
@@ -7,7 +7,9 @@ use mathlib.Core.List.{List}
 use lib.ListN.{length, drop}
 use borrow.Author.Tests.{eq-eqb, ne-eqb}
 use Rattle.layout.specs.Contents.{Contents}
-use Rattle.table.specs.Format.{Outcome, refused, after, plus, rectOf, fieldSays, atEnd, fieldsOf}
+use Rattle.layout.specs.Answers.{verdict}
+use Rattle.layout.proofs.Questions.{onVerdict, first-verdict}
+use Rattle.table.specs.Format.{Outcome, refused, headOf, plus, rectOf, headerAsks, fieldAsks, atEnd, fieldsOf, parseOf}
 
 pub fields-end : (left : ℕ) (bs : List ℕ) (c : Contents) → length bs ≡ 0 → fieldsOf left bs c ≡ atEnd c
 unfolding fieldsOf
@@ -19,6 +21,11 @@ unfolding fieldsOf
 fields-full bs c h = rw (ne-eqb (length bs) 0 (λ e. omega arith))
 
 pub fields-step : (left : ℕ) (bs : List ℕ) (c : Contents) → 0 < length bs
-    → fieldsOf (suc left) bs c ≡ after (fieldSays bs) (fieldsOf left (drop 9 bs) (plus c (rectOf bs)))
+    → fieldsOf (suc left) bs c ≡ onVerdict (verdict (fieldAsks bs)) refused (fieldsOf left (drop 9 bs) (plus c (rectOf bs)))
 unfolding fieldsOf
-fields-step left bs c h = rw (ne-eqb (length bs) 0 (λ e. omega arith))
+fields-step left bs c h =
+    rw (ne-eqb (length bs) 0 (λ e. omega arith)) (first-verdict (fieldAsks bs) refused (fieldsOf left (drop 9 bs) (plus c (rectOf bs))))
+
+pub parse-step : (bs : List ℕ) → parseOf bs ≡ onVerdict (verdict (headerAsks bs)) refused (fieldsOf 16 (drop 9 bs) (headOf bs))
+unfolding parseOf
+parse-step bs = first-verdict (headerAsks bs) refused (fieldsOf 16 (drop 9 bs) (headOf bs))

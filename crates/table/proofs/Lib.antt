@@ -1,3 +1,4 @@
+pub mod Answers
 pub mod Asked
 pub mod Structs
 pub mod Fields
@@ -5,4 +6,5 @@ pub mod Sound
 pub mod Encoded
 pub mod Complete
 pub mod Numbers
+pub mod Taken
 pub mod Theorems

@@ -20,17 +20,19 @@ use Rattle.layout.specs.declared.Verdict.{Verdict}
 use Rattle.layout.specs.declared.Verdict.the-variants.{Accepted, Refused}
 use Rattle.layout.specs.Contents.{Contents, noRect}
 use Rattle.limits.specs.Limits.{rectGood, valueGood}
-use Rattle.layout.specs.Answers.{ask}
-use Rattle.table.specs.Format.{Bytes, Outcome, refused, loaded, after, marked, headOf, rectOf, plus, headerSays, fieldSays, atEnd, fieldsOf, parseOf, fitOf, loadOf, verdictOf, encodeRect, encodeRects, encodeHead, encode}
-use Rattle.limits.proofs.Asked.{ask-accepted, HeadTests}
+use Rattle.layout.specs.Answers.{refused as refusal, accepted, verdict}
+use Rattle.layout.proofs.Answers.{same-refusal}
+use Rattle.layout.proofs.Questions.{onVerdict}
+use Rattle.table.specs.Format.{Bytes, Outcome, refused, loaded, marked, headOf, rectOf, plus, headerAsks, fieldAsks, atEnd, fieldsOf, parseOf, fitOf, loadOf, saidOf, encodeRect, encodeRects, encodeHead, encode}
+use Rattle.limits.proofs.Asked.{HeadTests}
 use Rattle.table.proofs.Asked.{FieldTests, field-accepted, HeaderTests, header-accepted}
 use Rattle.table.proofs.Structs.{with-rects}
-use Rattle.table.proofs.Fields.{fields-end, fields-full, fields-step}
+use Rattle.table.proofs.Fields.{fields-end, fields-full, fields-step, parse-step}
 
 -- ---- verdicts and outcomes
 
 -- what follows questions is loaded only where they were answered yes
-pub after-loaded : (v : Verdict) (next : Outcome) (c : Contents) → after v next ≡ loaded c → (v ≡ Accepted) × (next ≡ loaded c)
+after-loaded : (v : Verdict) (next : Outcome) (c : Contents) → onVerdict v refused next ≡ loaded c → (v ≡ Accepted) × (next ≡ loaded c)
 after-loaded Accepted next c e = (refl, e)
 after-loaded (Refused n p) next c e = absurd (let z : _≡_ {A = ℕ} 0 1 = cc in omega arith)
 
@@ -40,17 +42,17 @@ same-contents e = cc
 pub end-loaded : (c d : Contents) → atEnd c ≡ loaded d → (1 ≤ length (c .rects)) × (c ≡ d)
 end-loaded c d e = go (leb 1 (length (c .rects))) (leb-true 1 (length (c .rects))) e
   where
-    go : (b : Bool) → (b ≡ true → 1 ≤ length (c .rects)) → after (ask 9 b Accepted) (loaded c) ≡ loaded d → (1 ≤ length (c .rects)) × (c ≡ d)
+    go : (b : Bool) → (b ≡ true → 1 ≤ length (c .rects)) → cond b (loaded c) (refused 9 0) ≡ loaded d → (1 ≤ length (c .rects)) × (c ≡ d)
     go true f e = (f refl, same-contents e)
     go false f e = absurd (let z : _≡_ {A = ℕ} 0 1 = cc in omega arith)
 
--- an outcome, from its verdict
-pub refused-from : (o : Outcome) (n p : ℕ) → verdictOf o ≡ Refused n p → o ≡ refused n p
-refused-from (refused m q) n p e = cc
-refused-from (loaded c) n p e = absurd (let z : _≡_ {A = ℕ} 0 1 = cc in omega arith)
+-- an outcome, from what is said of it
+pub refused-from : (o : Outcome) (n p : ℕ) → saidOf o ≡ refusal n p → o ≡ refused n p
+refused-from (refused m q) n p e = same-refusal refused e
+refused-from (loaded c) n p e = absurd (let z = ap (λ s. s .kind) e in omega arith)
 
-pub loaded-from : (o : Outcome) → verdictOf o ≡ Accepted → (c : Contents) × (o ≡ loaded c)
-loaded-from (refused m q) e = absurd (let z : _≡_ {A = ℕ} 0 1 = cc in omega arith)
+pub loaded-from : (o : Outcome) → saidOf o ≡ accepted [] → (c : Contents) × (o ≡ loaded c)
+loaded-from (refused m q) e = absurd (let z = ap (λ s. s .kind) e in omega arith)
 loaded-from (loaded c) e = (c, refl)
 
 -- ---- the bytes of a field
@@ -175,7 +177,7 @@ fields-sound (suc left) bs c d e =
     elim (eq-zero-or-pos (length bs)) [
       | inl z ↦ rest-none (suc left) bs c d z (sym (fields-end (suc left) bs c z) ∙ e)
       | inr p ↦
-          let a = after-loaded (fieldSays bs) _ d (sym (fields-step left bs c p) ∙ e) in
+          let a = after-loaded (verdict (fieldAsks bs)) _ d (sym (fields-step left bs c p) ∙ e) in
           rest-more left bs c d (field-accepted bs (a .0)) (fields-sound left (drop 9 bs) (plus c (rectOf bs)) d (a .1))
     ]
 
@@ -206,18 +208,18 @@ parsed bs c h r =
     }
 
 pub parse-sound : (bs : List ℕ) (c : Contents) → parseOf bs ≡ loaded c → Parsed bs c
-unfolding parseOf
 parse-sound bs c e =
-    let a = after-loaded (headerSays bs) _ c e in
+    let a = after-loaded (verdict (headerAsks bs)) _ c (sym (parse-step bs) ∙ e) in
     parsed bs c (header-accepted bs (a .0)) (fields-sound 16 (drop 9 bs) (headOf bs) c (a .1))
 
 -- question 10 lets through what was read, where its answer is yes
 pub fit-loaded : (o : Outcome) (c : Contents) → fitOf o ≡ loaded c → (o ≡ loaded c) × (valueGood c ≡ true)
 fit-loaded (refused n p) c e = absurd (let z : _≡_ {A = ℕ} 0 1 = cc in omega arith)
-fit-loaded (loaded d) c e =
-    let a = after-loaded (ask 10 (valueGood d) Accepted) (loaded d) c e in
-    let b = ask-accepted 10 (valueGood d) Accepted (a .0) in
-    (a .1, subst (λ x. valueGood x ≡ true) (same-contents (a .1)) (b .0))
+fit-loaded (loaded d) c e = go (valueGood d) refl e
+  where
+    go : (b : Bool) → valueGood d ≡ b → cond b (loaded d) (refused 10 0) ≡ loaded c → (loaded d ≡ loaded c) × (valueGood c ≡ true)
+    go true y e = (e, subst (λ x. valueGood x ≡ true) (same-contents e) y)
+    go false y e = absurd (let z : _≡_ {A = ℕ} 0 1 = cc in omega arith)
 
 pub load-sound : (bs : List ℕ) (c : Contents) → loadOf bs ≡ loaded c → Parsed bs c × (valueGood c ≡ true)
 unfolding loadOf

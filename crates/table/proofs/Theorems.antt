@@ -4,7 +4,7 @@ use Prim.Native.Nat.{ℕ, _+_, _/_, _%_, _*_, _≤_, _<_}
 use native.Mathlib.Omega.{arith}
 use mathlib.Core.Path.{_≡_, refl, sym, ap, _∙_, subst}
 use mathlib.Core.Logic.{_↔_}
-use mathlib.Core.Bool.{Bool, true, _&&_}
+use mathlib.Core.Bool.{Bool, true, false, _&&_}
 use mathlib.Core.List.{List, [], _∷_, _++_}
 use lib.Dec.{T}
 use borrow.Author.Tests.{le-leb}
@@ -13,18 +13,21 @@ use Rattle.arith.specs.All.{all}
 use Rattle.arith.specs.Twos.{fitsSigned}
 use Rattle.arith.proofs.Alls.{all-of}
 use Rattle.arith.proofs.Bools.{true-of}
-use lib.ListN.{length, getD}
+use lib.ListN.{length, getD, take, drop}
+use lib.IntN.{pos}
 use Rattle.layout.specs.declared.Rect.{Rect}
 use Rattle.layout.specs.declared.Table.{Table}
-use Rattle.layout.specs.declared.Verdict.{Verdict}
-use Rattle.layout.specs.declared.Verdict.the-variants.{Accepted, Refused}
 use Rattle.layout.specs.Contents.{Contents, noRect, contents}
-use Rattle.limits.specs.Limits.{rectGood, within, acceptable}
-use Rattle.layout.specs.Answers.{ask, Said, said}
-use Rattle.table.specs.Format.{Bytes, Outcome, refused, loaded, loadOf, verdictOf, encode}
+use Rattle.layout.specs.Answers.{refused as refusal, accepted}
+use Rattle.limits.specs.Limits.{bitsGood, rectGood, within, acceptable}
+use Rattle.table.specs.Format.{Bytes, Outcome, refused, loaded, loadOf, saidOf, tableFrom, readMost, encode}
+use Rattle.table.specs.Writing.{fileLength, wrote, writeOf}
 use Rattle.table.proofs.Numbers.{Number, Outcomes, loads, fails, number-of, load-numbers}
 use Rattle.table.proofs.Sound.{same-contents, load-sound}
 use Rattle.table.proofs.Complete.{load-read, encode-bytes}
+use Rattle.table.proofs.Structs.{contents-tableOf}
+use Rattle.table.proofs.Encoded.{length-file}
+use Rattle.table.proofs.Taken.{load-take}
 
 -- L4: every table within the limits is accepted, and written and loaded it is the same table
 pub every-table-loads : (c : Contents) → T (within c) → loadOf (encode c) ≡ loaded c
@@ -68,13 +71,44 @@ pub encode-injective : (c d : Contents) → T (within c) → T (within d) → en
 encode-injective c d p q e = same-contents (sym (load-read c p) ∙ ap loadOf e ∙ load-read d q)
 
 -- L2: the number of the check is 0 exactly when the file is accepted
-pub check-zero : (bs : List ℕ) → (said (verdictOf (loadOf bs)) .number ≡ 0) ↔ ((c : Contents) × (loadOf bs ≡ loaded c))
+pub check-zero : (bs : List ℕ) → (saidOf (loadOf bs) .number ≡ 0) ↔ ((c : Contents) × (loadOf bs ≡ loaded c))
 check-zero bs = (go (loadOf bs) (load-numbers bs), λ h. rw (h .1))
   where
-    go : (o : Outcome) → Outcomes o → said (verdictOf o) .number ≡ 0 → (c : Contents) × (o ≡ loaded c)
+    go : (o : Outcome) → Outcomes o → saidOf o .number ≡ 0 → (c : Contents) × (o ≡ loaded c)
     go o (fails h) e = absurd (let l = h .least in omega arith)
     go o (loads {c}) e = (c, refl)
 
 -- a refused file gets a number from 1 to 10, and place 0
 pub refusal-numbers : (bs : List ℕ) (n p : ℕ) → loadOf bs ≡ refused n p → Number n p
 refusal-numbers bs n p e = number-of (subst Outcomes e (load-numbers bs))
+
+-- J1: what loading hands out holds the table of the file, and question 11 says yes of it
+pub loaded-accepted : (bs : List ℕ) (c : Contents) → Bytes bs → loadOf bs ≡ loaded c
+    → (contents (tableFrom (loadOf bs)) ≡ c) × (acceptable (tableFrom (loadOf bs)) ≡ true)
+unfolding acceptable
+loaded-accepted bs c byte e =
+    let same = ap (λ o. contents (tableFrom o)) e ∙ contents-tableOf c (load-sound bs c e .0 .most) in
+    (same, ap within same ∙ true-of (within c) (loaded-within bs c byte e))
+
+-- J2, the last sentence of demand 2: the table of an accepted file, written into an output that is long enough, is answered with the
+-- length of the file, and the output holds the file and beyond it what was there
+pub file-again : (bs : List ℕ) (c : Contents) (out : List ℕ) → Bytes bs → loadOf bs ≡ loaded c → length bs ≤ length out
+    → writeOf (tableFrom (loadOf bs)) out ≡ wrote (accepted (pos (length bs) ∷ [])) (bs ++ drop (length bs) out)
+unfolding writeOf
+file-again bs c out byte e h =
+    let a = loaded-accepted bs c byte e in
+    let t = tableFrom (loadOf bs) in
+    let file : encode (contents t) ≡ bs = ap encode (a .0) ∙ written-back bs c byte e in
+    let size : fileLength t ≡ length bs = sym (length-file t) ∙ ap length file in
+    rw (a .1, file, size, le-leb (length bs) (length out) h)
+
+-- J4: the table of a refused file is refused by question 11, and writing it leaves the output as it was
+pub refused-table : (bs : List ℕ) (n p : ℕ) (out : List ℕ) → loadOf bs ≡ refused n p
+    → (acceptable (tableFrom (loadOf bs)) ≡ false) × (writeOf (tableFrom (loadOf bs)) out ≡ wrote (refusal 11 0) out)
+unfolding acceptable within bitsGood writeOf
+refused-table bs n p out e = rw e (refl, refl)
+
+-- the first 154 bytes of a file are enough: the table has at most 9 + 9·16 = 153, and of what follows only whether there is a byte
+-- matters. The first 153 are not: those of a longer file may be a table, which is accepted
+pub first-154 : (bs : List ℕ) → loadOf (take readMost bs) ≡ loadOf bs
+first-154 bs = load-take readMost bs (omega arith)

@@ -8,11 +8,9 @@ use lib.ListN.{length, getD, drop}
 use Rattle.arith.specs.Twos.{signed, unsigned}
 use Rattle.layout.specs.declared.Rect.{Rect}
 use Rattle.layout.specs.declared.Table.{Table}
-use Rattle.layout.specs.declared.Verdict.{Verdict}
-use Rattle.layout.specs.declared.Verdict.the-variants.{Accepted, Refused}
 use Rattle.layout.specs.Contents.{Contents, noRects, tableOf}
-use Rattle.limits.specs.Limits.{headSays, rectGood, valueGood}
-use Rattle.layout.specs.Answers.{ask}
+use Rattle.layout.specs.Answers.{Said, refused as refusal, accepted, Question, asks, firstNo}
+use Rattle.limits.specs.Limits.{headAsks, rectGood, valueGood}
 
 -- a file is a sequence of bytes
 abbrev pub Bytes : List ℕ → Type 0
@@ -24,11 +22,6 @@ Bytes bs = (k : ℕ) → k < length bs → getD bs k 0 < 256
 pub data Outcome : Type 0 where
   refused : (number place : ℕ) → Outcome
   loaded : Contents → Outcome
-
--- what comes of questions, where `next` follows if they are all answered yes
-abbrev pub after : Verdict → Outcome → Outcome
-after Accepted next = next
-after (Refused number place) next = refused number place
 
 -- a field begins with this tag and the length 6
 unfoldable pub marked : (tag : ℕ) → List ℕ → Bool
@@ -54,46 +47,62 @@ abbrev pub plus : Contents → Rect → Contents
 plus c r = record { b = c .b; q1 = c .q1; q2 = c .q2; q3 = c .q3; t = c .t; w = c .w; rects = c .rects ++ (r ∷ []) }
 
 -- questions 1 to 5, on the header
-unfoldable pub headerSays : List ℕ → Verdict
-headerSays bs =
-    ask 1 (marked 1 bs)
-    (ask 2 (leb 9 (length bs)) (headSays (getD bs 3 0) (getD bs 4 0) (getD bs 5 0) (getD bs 6 0) (getD bs 7 0) (getD bs 8 0)))
+unfoldable pub headerAsks : List ℕ → List Question
+headerAsks bs =
+    asks 1 (marked 1 bs) ∷ asks 2 (leb 9 (length bs))
+    ∷ headAsks (getD bs 3 0) (getD bs 4 0) (getD bs 5 0) (getD bs 6 0) (getD bs 7 0) (getD bs 8 0)
 
 -- questions 7, 2 and 8, on a further field
-unfoldable pub fieldSays : List ℕ → Verdict
-fieldSays bs = ask 7 (marked 2 bs) (ask 2 (leb 9 (length bs)) (ask 8 (rectGood (rectOf bs)) Accepted))
+unfoldable pub fieldAsks : List ℕ → List Question
+fieldAsks bs = asks 7 (marked 2 bs) ∷ asks 2 (leb 9 (length bs)) ∷ asks 8 (rectGood (rectOf bs)) ∷ []
 
 -- question 9, at the end of the file
 abbrev pub atEnd : Contents → Outcome
-atEnd c = after (ask 9 (leb 1 (length (c .rects))) Accepted) (loaded c)
+atEnd c = firstNo (asks 9 (leb 1 (length (c .rects))) ∷ []) refused (loaded c)
 
 -- the fields after the header while bytes remain, where `left` rectangles more may be read: question 6 asks that there are any
 unfoldable pub fieldsOf : (left : ℕ) → List ℕ → Contents → Outcome
 fieldsOf zero bs c = cond (eqb (length bs) 0) (atEnd c) (refused 6 0)
-fieldsOf (suc left) bs c = cond (eqb (length bs) 0) (atEnd c) (after (fieldSays bs) (fieldsOf left (drop 9 bs) (plus c (rectOf bs))))
+fieldsOf (suc left) bs c =
+    cond (eqb (length bs) 0) (atEnd c) (firstNo (fieldAsks bs) refused (fieldsOf left (drop 9 bs) (plus c (rectOf bs))))
 
 -- questions 1 to 9
 unfoldable pub parseOf : List ℕ → Outcome
-parseOf bs = after (headerSays bs) (fieldsOf 16 (drop 9 bs) (headOf bs))
+parseOf bs = firstNo (headerAsks bs) refused (fieldsOf 16 (drop 9 bs) (headOf bs))
 
 -- question 10, on a table that was read
 abbrev pub fitOf : Outcome → Outcome
 fitOf (refused number place) = refused number place
-fitOf (loaded c) = after (ask 10 (valueGood c) Accepted) (loaded c)
+fitOf (loaded c) = firstNo (asks 10 (valueGood c) ∷ []) refused (loaded c)
 
 -- loading: questions 1 to 10
 unfoldable pub loadOf : List ℕ → Outcome
 loadOf bs = fitOf (parseOf bs)
 
--- the verdict on the file
-abbrev pub verdictOf : Outcome → Verdict
-verdictOf (refused number place) = Refused number place
-verdictOf (loaded c) = Accepted
+-- how many bytes of a file are enough to load it: one more than the longest table has
+abbrev pub readMost : ℕ
+readMost = 154
+
+-- what is said of the file
+abbrev pub saidOf : Outcome → Said
+saidOf (refused number place) = refusal number place
+saidOf (loaded c) = accepted []
 
 -- the struct that is handed out: the table, or one with no rectangle where the file was refused
 abbrev pub tableFrom : Outcome → Table
 tableFrom (refused number place) = tableOf (noRects 0 0 0 0 0 0)
 tableFrom (loaded c) = tableOf c
+
+-- what loading hands out: what it says, and the struct
+pub record Handed : Type 0 where
+  pub said : Said
+  pub table : Table
+
+abbrev pub handed : Said → Table → Handed
+handed said table = record { said = said; table = table }
+
+abbrev pub handedOut : Outcome → Handed
+handedOut o = handed (saidOf o) (tableFrom o)
 
 -- ---- writing
 

@@ -1,45 +1,37 @@
--- What writing a table answers, and what it leaves in the output.
+-- What writing a table says, and what it leaves in the output.
 -- Assumes nothing.
 use Prim.Native.Nat.{ℕ, _+_, _*_}
-use mathlib.Core.List.{List, _++_}
+use mathlib.Core.List.{List, [], _∷_, _++_}
 use lib.Dec.{leb}
 use lib.ListN.{length, drop}
+use lib.IntN.{pos}
 use Rattle.layout.specs.declared.Table.{Table}
-use Rattle.layout.specs.declared.Verdict.{Verdict}
-use Rattle.layout.specs.declared.Verdict.the-variants.{Accepted, Refused}
 use Rattle.table.specs.declared.writing.Written.{Written}
 use Rattle.table.specs.declared.writing.Written.the-variants.{Length, Refused as NotWritten}
 use Rattle.layout.specs.Contents.{contents}
+use Rattle.layout.specs.Answers.{Said, refused, accepted, asks, firstNo}
 use Rattle.limits.specs.Limits.{acceptable}
-use Rattle.layout.specs.Answers.{ask, Said}
 use Rattle.table.specs.Format.{encode}
+
+-- an answer in the papers' numbers
+abbrev pub writtenSaid : Written → Said
+writtenSaid (Length n) = accepted (pos n ∷ [])
+writtenSaid (NotWritten number place) = refused number place
+
+-- what a call to write leaves: what it says, and the output
+pub record Wrote : Type 0 where
+  pub said : Said
+  pub out : List ℕ
+
+abbrev pub wrote : Said → (out : List ℕ) → Wrote
+wrote said out = record { said = said; out = out }
 
 -- the length of the file of a table: 9 + 9·(rectangles)
 abbrev pub fileLength : Table → ℕ
 fileLength t = 9 + 9 * t .count
 
--- writing asks 11, and 13: whether the output, of n places, is long enough
-unfoldable pub writeSays : Table → ℕ → Verdict
-writeSays t n = ask 11 (acceptable t) (ask 13 (leb (fileLength t) n) Accepted)
-
--- the answer in the code's form
-abbrev pub answered : Verdict → ℕ → Written
-answered Accepted n = Length n
-answered (Refused number place) n = NotWritten number place
-
--- the answer: the length, or the refusal
-abbrev pub writtenOf : Table → ℕ → Written
-writtenOf t n = answered (writeSays t n) (fileLength t)
-
--- an answer in the papers' numbers, with the length where there is one
-abbrev pub writtenSaid : Written → Said
-writtenSaid (Length n) = record { number = 0; place = 0 }
-writtenSaid (NotWritten number place) = record { number = number; place = place }
-
--- the output afterwards, by the verdict: the file and beyond it what was there, or all as it was
-abbrev pub left : Verdict → List ℕ → List ℕ → List ℕ
-left Accepted file rest = file ++ drop (length file) rest
-left (Refused number place) file rest = rest
-
-unfoldable pub outputOf : Table → List ℕ → List ℕ
-outputOf t out = left (writeSays t (length out)) (encode (contents t)) out
+-- questions 11, and 13 on the length of the output; then the length of the file, and the file with what was there beyond it
+unfoldable pub writeOf : Table → (out : List ℕ) → Wrote
+writeOf t out =
+    firstNo (asks 11 (acceptable t) ∷ asks 13 (leb (fileLength t) (length out)) ∷ []) (λ number place. wrote (refused number place) out)
+    (wrote (accepted (pos (fileLength t) ∷ [])) (encode (contents t) ++ drop (fileLength t) out))

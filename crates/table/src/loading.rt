@@ -4,7 +4,7 @@ ghost use Prim.Native.Nat.{_≤_};
 ghost use lib.ListN.{length, drop};
 ghost use Rattle.layout.specs.Contents.{noRects, contents, tableOf};
 ghost use Rattle.layout.specs.Answers.{said};
-ghost use Rattle.table.specs.Format.{headOf, fieldsOf, parseOf, loadOf, verdictOf, tableFrom};
+ghost use Rattle.table.specs.Format.{headOf, fieldsOf, parseOf, loadOf, saidOf, handed, handedOut};
 use crate::reading::field;
 use crate::reading::header;
 use crate::reading::rect_of;
@@ -66,8 +66,8 @@ fn head_of(bytes: &[u8]) -> Table
 fn fields(bytes: &[u8], start: Table) -> Loaded
     requires { ⌜ 9 ≤ length (now bytes) ⌝ }
     requires { ⌜ start ≡ tableOf (headOf (now bytes)) ⌝ }
-    ensures { λ r. ⌜ r .verdict ≡ verdictOf (fieldsOf 16 (drop 9 (now (bytes .entry))) (headOf (now (bytes .entry)))) ⌝ }
-    ensures { λ r. ⌜ r .table ≡ tableFrom (fieldsOf 16 (drop 9 (now (bytes .entry))) (headOf (now (bytes .entry)))) ⌝ }
+    ensures { λ r. ⌜ handed (said (r .verdict)) (r .table)
+        ≡ handedOut (fieldsOf 16 (drop 9 (now (bytes .entry))) (headOf (now (bytes .entry)))) ⌝ }
 {
     let mut t = start;
     let mut at = 9;
@@ -97,8 +97,7 @@ fn fields(bytes: &[u8], start: Table) -> Loaded
 
 // Questions 1 to 9.
 pub fn parse(bytes: &[u8]) -> Loaded
-    ensures { λ r. ⌜ r .verdict ≡ verdictOf (parseOf (now (bytes .entry))) ⌝ }
-    ensures { λ r. ⌜ r .table ≡ tableFrom (parseOf (now (bytes .entry))) ⌝ }
+    ensures { λ r. ⌜ handed (said (r .verdict)) (r .table) ≡ handedOut (parseOf (now (bytes .entry))) ⌝ }
 {
     let v = header(bytes);
     match v {
@@ -109,8 +108,7 @@ pub fn parse(bytes: &[u8]) -> Loaded
 
 // Loading: questions 1 to 10.
 pub fn load(bytes: &[u8]) -> Loaded
-    ensures { λ r. ⌜ r .verdict ≡ verdictOf (loadOf (now (bytes .entry))) ⌝ }
-    ensures { λ r. ⌜ r .table ≡ tableFrom (loadOf (now (bytes .entry))) ⌝ }
+    ensures { λ r. ⌜ handed (said (r .verdict)) (r .table) ≡ handedOut (loadOf (now (bytes .entry))) ⌝ }
 {
     let read = parse(bytes);
     let v = read.verdict;
@@ -125,7 +123,7 @@ pub fn load(bytes: &[u8]) -> Loaded
 
 // The check: 0 where the file is accepted, else the number of the refusal.
 pub fn table_check(bytes: &[u8]) -> u32
-    ensures { λ r. ⌜ r ≡ said (verdictOf (loadOf (now (bytes .entry)))) .number ⌝ }
+    ensures { λ r. ⌜ r ≡ saidOf (loadOf (now (bytes .entry))) .number ⌝ }
 {
     let loaded = load(bytes);
     let v = loaded.verdict;

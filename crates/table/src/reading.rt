@@ -2,7 +2,8 @@
 ghost use mathlib.Core.Path.{_≡_};
 ghost use Prim.Native.Nat.{_≤_};
 ghost use lib.ListN.{length};
-ghost use Rattle.table.specs.Format.{marked, rectOf, headerSays, fieldSays};
+ghost use Rattle.layout.specs.Answers.{verdict};
+ghost use Rattle.table.specs.Format.{marked, rectOf, headerAsks, fieldAsks};
 use arith::signed_byte;
 use arith::signed_word;
 use layout::Rect;
@@ -28,7 +29,7 @@ fn starts(tag: u8, bytes: &[u8]) -> bool
 
 // Questions 1 to 5, on the header.
 pub fn header(bytes: &[u8]) -> Verdict
-    ensures { λ r. ⌜ r ≡ headerSays (now (bytes .entry)) ⌝ }
+    ensures { λ r. ⌜ r ≡ verdict (headerAsks (now (bytes .entry))) ⌝ }
 {
     if !starts(1, bytes) {
         return Verdict::Refused(1, 0);
@@ -41,7 +42,7 @@ pub fn header(bytes: &[u8]) -> Verdict
 
 // Questions 7, 2 and 8, on a further field.
 pub fn field(bytes: &[u8]) -> Verdict
-    ensures { λ r. ⌜ r ≡ fieldSays (now (bytes .entry)) ⌝ }
+    ensures { λ r. ⌜ r ≡ verdict (fieldAsks (now (bytes .entry))) ⌝ }
 {
     if !starts(2, bytes) {
         return Verdict::Refused(7, 0);

@@ -5,7 +5,7 @@ ghost use lib.ListN.{length, drop};
 ghost use mathlib.Core.List.{_++_};
 ghost use Rattle.layout.specs.Contents.{contents};
 ghost use Rattle.table.specs.Format.{encodeHead, encodeRect, encode};
-ghost use Rattle.table.specs.Writing.{writtenOf, outputOf};
+ghost use Rattle.table.specs.Writing.{writtenSaid, wrote, writeOf};
 use arith::byte_of;
 use arith::word_of;
 use layout::Rect;
@@ -70,8 +70,7 @@ fn put(out: &mut [u8], t: Table)
 
 // Writing a table: question 11, then 13; the file goes to the start of out, and nothing beyond it is touched.
 pub fn write(t: Table, out: &mut [u8]) -> Written
-    ensures { λ r. ⌜ r ≡ writtenOf t (length (now (out .entry))) ⌝ }
-    ensures { λ _. ⌜ now (out .exit) ≡ outputOf t (now (out .entry)) ⌝ }
+    ensures { λ r. ⌜ wrote (writtenSaid r) (now (out .exit)) ≡ writeOf t (now (out .entry)) ⌝ }
 {
     if !accepted(t) {
         return Written::Refused(11, 0);

@@ -1,5 +1,6 @@
 use Rattle.table.specs.Format.{loaded}
-use Rattle.layout.specs.Answers.{ask}
+use Rattle.layout.specs.Answers.{said, verdict}
+use Rattle.layout.proofs.Questions.{onVerdict}
 use borrow.Author.Tests.{le-leb, lt-leb}
 use Rattle.table.proofs.Asked.{FieldTests, field-accepted}
 use Rattle.limits.proofs.Values.{slots}
@@ -7,7 +8,7 @@ use mathlib.Core.List.{_∷_}
 use lib.ListN.{length-append}
 use Rattle.table.proofs.Fields.{fields-end, fields-full, fields-step}
 use Rattle.table.proofs.Structs.{contents-tableOf, placed, placed-is}
-use Rattle.table.specs.Format.{refused, after, plus, rectOf, fieldSays, atEnd, verdictOf, tableFrom}
+use Rattle.table.specs.Format.{refused, plus, rectOf, fieldAsks, atEnd, handed, handedOut}
 use Rattle.layout.specs.Contents.{noRects}
 use Rattle.layout.specs.declared.Verdict.the-variants.{Accepted, Refused}
 use Rattle.layout.specs.declared.Verdict.{Verdict}
@@ -17,7 +18,8 @@ use denote.Ref.{now}
 use lib.Seq.{drop-drop}
 use Rattle.arith.proofs.Parts.{tail-is}
 use lib.ListN.{length-drop}
-use mathlib.Core.Path.{refl, sym, ap, _∙_}
+use mathlib.Core.Path.{refl, sym, ap, ap₂, _∙_}
+use mathlib.Core.Bool.{cond}
 use native.Mathlib.Omega.{arith}
 use mathlib.Core.List.{List, []}
 use Rattle.table.specs.Format.{Outcome, headOf, fieldsOf}
@@ -44,12 +46,12 @@ abbrev μ-loop : tie.MeasureT-loop
 -- what the loop has come to, where it ends in a refusal
 ended : (bs : List ℕ) (n p : ℕ) (v : Verdict) (t : Table) → fieldsOf 16 (drop 9 bs) (headOf bs) ≡ refused n p
     → v ≡ Refused n p → t ≡ tableOf (noRects 0 0 0 0 0 0)
-    → (v ≡ verdictOf (fieldsOf 16 (drop 9 bs) (headOf bs))) × (t ≡ tableFrom (fieldsOf 16 (drop 9 bs) (headOf bs)))
-ended bs n p v t e h k = (rw e h, rw e k)
+    → handed (said v) t ≡ handedOut (fieldsOf 16 (drop 9 bs) (headOf bs))
+ended bs n p v t e h k = ap₂ handed (ap said h) k ∙ sym (ap handedOut e)
 
 -- a turn of the loop: the field at `at` was accepted, and its rectangle goes into the first free slot
 module _ (bs : List ℕ) (t : Table) (at : ℕ) (inv : Inv-loop bs t at t at) (free : t .count < 16) (more : at < length bs)
-    (v : fieldSays (drop at bs) ≡ Accepted) where
+    (v : verdict (fieldAsks (drop at bs)) ≡ Accepted) where
   field-good : FieldTests (drop at bs)
   field-good = field-accepted (drop at bs) v
 
@@ -77,7 +79,7 @@ module _ (bs : List ℕ) (t : Table) (at : ℕ) (inv : Inv-loop bs t at t at) (f
         ap (λ x. fieldsOf (16 - (t .count + 1)) (drop (at + 9) bs) x) next-contents
             ∙ ap (λ x. fieldsOf (16 - (t .count + 1)) x (plus (contents t) (rectOf (drop at bs)))) (sym (drop-drop 9 at bs))
             ∙ sym (fields-step (16 - (t .count + 1)) (drop at bs) (contents t) (omega arith)
-            ∙ ap (λ x. after x (fieldsOf (16 - (t .count + 1)) (drop 9 (drop at bs)) (plus (contents t) (rectOf (drop at bs))))) v)
+            ∙ ap (λ x. onVerdict x refused (fieldsOf (16 - (t .count + 1)) (drop 9 (drop at bs)) (plus (contents t) (rectOf (drop at bs))))) v)
             ∙ ap (λ n. fieldsOf n (drop at bs) (contents t)) (sym z)
             ∙ inv .3,
       )
@@ -141,7 +143,7 @@ returns-2 c =
     let v = sym f ∙ c .before .before .v .given .1 in
     let e =
     sym (i .3) ∙ ap (λ n. fieldsOf n (drop (s .loop .at) bs) (contents (s .loop .t))) z ∙ fields-step _ _ _ (omega arith)
-    ∙ ap (λ x. after x (fieldsOf (15 - s .loop .t .count) (drop 9 (drop (s .loop .at) bs)) (plus (contents (s .loop .t)) (rectOf (drop (s .loop .at) bs))))) v in
+    ∙ ap (λ x. onVerdict x refused (fieldsOf (15 - s .loop .t .count) (drop 9 (drop (s .loop .at) bs)) (plus (contents (s .loop .t)) (rectOf (drop (s .loop .at) bs))))) v in
     ended bs _ _ _ _ e (c .refused2 .ensures .0) (c .refused2 .ensures .1)
 
 enum-told : tie.Need-enum-told Inv-loop μ-loop
@@ -204,7 +206,7 @@ returns-3 c =
     let k = slots (s .loop .t) in
     let e = sym (i .3) ∙ fields-end (16 - s .loop .t .count) (drop (s .loop .at) bs) (contents (s .loop .t)) (omega arith) in
     let n = lt-leb 1 (length (contents (s .loop .t) .rects)) (omega arith) in
-    ended bs 9 0 _ _ (e ∙ ap (λ b. after (ask 9 b Accepted) (loaded (contents (s .loop .t)))) n) (c .refused3 .ensures .0) (c .refused3 .ensures .1)
+    ended bs 9 0 _ _ (e ∙ ap (λ b. cond b (loaded (contents (s .loop .t))) (refused 9 0)) n) (c .refused3 .ensures .0) (c .refused3 .ensures .1)
 
 -- src/loading.rt:60:1
 returns-4 : tie.Need-returns-4 Inv-loop μ-loop
@@ -216,8 +218,8 @@ returns-4 c =
     let k = slots (s .loop .t) in
     let e = sym (i .3) ∙ fields-end (16 - s .loop .t .count) (drop (s .loop .at) bs) (contents (s .loop .t)) (omega arith) in
     let n = le-leb 1 (length (contents (s .loop .t) .rects)) (omega arith) in
-    let o = e ∙ ap (λ b. after (ask 9 b Accepted) (loaded (contents (s .loop .t)))) n in
-    (rw o, rw o (i .0))
+    let o = e ∙ ap (λ b. cond b (loaded (contents (s .loop .t))) (refused 9 0)) n in
+    ap (handed (said Accepted)) (i .0) ∙ sym (ap handedOut o)
 
 pub fields-spec : {M : Type 1} → statement M
 fields-spec =

@@ -1,7 +1,7 @@
 use Rattle.table.proofs.Sound.{refused-from, loaded-from, parse-sound}
 use Rattle.table.proofs.Structs.{contents-tableOf}
-use Rattle.table.specs.Format.{Outcome, refused, loaded, after, parseOf, fitOf, loadOf, verdictOf, tableFrom}
-use Rattle.layout.specs.Answers.{ask}
+use Rattle.table.specs.Format.{Outcome, refused, loaded, parseOf, fitOf, loadOf, handed, handedOut, tableFrom}
+use Rattle.layout.specs.Answers.{said}
 use Rattle.limits.specs.Limits.{fitting, valueGood}
 use Rattle.layout.specs.Contents.{Contents, tableOf}
 use Rattle.layout.specs.declared.Verdict.the-variants.{Accepted, Refused}
@@ -11,8 +11,8 @@ use lib.ListN.{length}
 use Prim.Native.Nat.{ℕ}
 use borrow.Author.Tests.{le-leb}
 use mathlib.Core.List.{List}
-use mathlib.Core.Bool.{Bool, true, false}
-use mathlib.Core.Path.{_≡_, refl, sym, ap, _∙_}
+use mathlib.Core.Bool.{Bool, true, false, cond}
+use mathlib.Core.Path.{_≡_, refl, sym, ap, ap₂, _∙_}
 use native.Mathlib.Omega.{arith}
 use borrow.Author.Needs.{needs}
 use Rattle.table.proofs.loading.load.Statement.{statement}
@@ -30,12 +30,12 @@ record Read (bs : List ℕ) (t : Table) : Type 0 where
   held : t ≡ tableOf c
   fits : fitting t ≡ valueGood c
 
-read : (bs : List ℕ) (v : Verdict) (t : Table) → v ≡ verdictOf (parseOf bs) → t ≡ tableFrom (parseOf bs) → v ≡ Accepted → Read bs t
+read : (bs : List ℕ) (v : Verdict) (t : Table) → handed (said v) t ≡ handedOut (parseOf bs) → v ≡ Accepted → Read bs t
 unfolding fitting
-read bs v t e h a =
-    let l = loaded-from (parseOf bs) (sym e ∙ a) in
+read bs v t e a =
+    let l = loaded-from (parseOf bs) (sym (ap (λ h. h .said) e) ∙ ap said a) in
     let p = parse-sound bs (l .0) (l .1) in
-    let s : t ≡ tableOf (l .0) = h ∙ ap tableFrom (l .1) in
+    let s : t ≡ tableOf (l .0) = ap (λ h. h .table) e ∙ ap tableFrom (l .1) in
     record {
       c = l .0;
       is = l .1;
@@ -49,9 +49,9 @@ unfolding loadOf
 refused-load bs e = ap fitOf e
 
 -- loading a file that questions 1 to 9 let through
-load-is : (bs : List ℕ) (c : Contents) (b : Bool) → parseOf bs ≡ loaded c → valueGood c ≡ b → loadOf bs ≡ after (ask 10 b Accepted) (loaded c)
+load-is : (bs : List ℕ) (c : Contents) (b : Bool) → parseOf bs ≡ loaded c → valueGood c ≡ b → loadOf bs ≡ cond b (loaded c) (refused 10 0)
 unfolding loadOf
-load-is bs c b e g = ap fitOf e ∙ ap (λ x. after (ask 10 x Accepted) (loaded c)) g
+load-is bs c b e g = ap fitOf e ∙ ap (λ x. cond x (loaded c) (refused 10 0)) g
 
 -- src/loading.rt:109:9
 parse-requires : tie.Need-parse-requires
@@ -77,25 +77,24 @@ refused-requires c κs = search needs
 returns : tie.Need-returns
 returns c =
     let r = c .before .before .parse .ensures in
-    let p = refused-from (parseOf _) _ _ (sym (r .0) ∙ c .enum-told .given .1) in
-    let l = refused-load _ p in
-    (rw l (r .0 ∙ ap verdictOf p), rw l (r .1 ∙ ap tableFrom p))
+    let p = refused-from (parseOf _) _ _ (sym (ap (λ h. h .said) r) ∙ ap said (c .enum-told .given .1)) in
+    r ∙ ap handedOut (p ∙ sym (refused-load _ p))
 
 -- src/loading.rt:105:1
 returns-2 : tie.Need-returns-2
 returns-2 c =
     let s = c .before .before .before .before .before in
-    let p = read _ _ _ (s .parse .ensures .0) (s .parse .ensures .1) (c .before .before .before .enum-told2 .given .1) in
+    let p = read _ _ _ (s .parse .ensures) (c .before .before .before .enum-told2 .given .1) in
     let l = load-is _ (p .c) true (p .is) (sym (p .fits) ∙ sym (c .before .value-good .ensures) ∙ c .if1 .taken) in
-    (rw l (c .before .before .before .enum-told2 .given .1), rw l (p .held))
+    ap₂ handed (ap said (c .before .before .before .enum-told2 .given .1)) (p .held) ∙ sym (ap handedOut l)
 
 -- src/loading.rt:105:1
 returns-3 : tie.Need-returns-3
 returns-3 c =
     let s = c .before .before .before .before .before .before in
-    let p = read _ _ _ (s .parse .ensures .0) (s .parse .ensures .1) (c .before .before .before .before .enum-told2 .given .1) in
+    let p = read _ _ _ (s .parse .ensures) (c .before .before .before .before .enum-told2 .given .1) in
     let l = load-is _ (p .c) false (p .is) (sym (p .fits) ∙ sym (c .before .before .value-good .ensures) ∙ c .before .if1 .left) in
-    (rw l (c .refused .ensures .0), rw l (c .refused .ensures .1))
+    ap₂ handed (ap said (c .refused .ensures .0)) (c .refused .ensures .1) ∙ sym (ap handedOut l)
 
 pub load-spec : {M : Type 1} → statement M
 load-spec =

@@ -1,10 +1,13 @@
 use Rattle.table.proofs.Asked.{header-accepted}
 use Rattle.layout.specs.declared.Verdict.{Verdict}
-use Rattle.table.specs.Format.{Outcome, after, headOf, headerSays, fieldsOf, parseOf, verdictOf, tableFrom}
+use Rattle.layout.specs.Answers.{said, verdict}
+use Rattle.layout.proofs.Questions.{onVerdict}
+use Rattle.table.specs.Format.{Outcome, refused, headOf, headerAsks, fieldsOf, parseOf, handed}
+use Rattle.table.proofs.Fields.{parse-step}
 use lib.ListN.{drop}
 use Prim.Native.Nat.{ℕ}
 use mathlib.Core.List.{List}
-use mathlib.Core.Path.{_≡_, sym, ap, _∙_}
+use mathlib.Core.Path.{_≡_, sym, ap, ap₂, _∙_}
 use borrow.Author.Needs.{needs}
 use Rattle.table.proofs.loading.parse.Statement.{statement}
 use Rattle.table.proofs.loading.parse.Tie as tie
@@ -15,9 +18,8 @@ use Rattle.table.proofs.loading.head_of.Reads as head-of-reads
 use Rattle.table.proofs.loading.refused.Reads as refused-reads
 use Rattle.table.proofs.reading.header.Reads as header-reads
 
-parse-is : (bs : List ℕ) {v : Verdict} → headerSays bs ≡ v → parseOf bs ≡ after v (fieldsOf 16 (drop 9 bs) (headOf bs))
-unfolding parseOf
-parse-is bs e = ap (λ v. after v (fieldsOf 16 (drop 9 bs) (headOf bs))) e
+parse-is : (bs : List ℕ) {v : Verdict} → verdict (headerAsks bs) ≡ v → parseOf bs ≡ onVerdict v refused (fieldsOf 16 (drop 9 bs) (headOf bs))
+parse-is bs e = parse-step bs ∙ ap (λ v. onVerdict v refused (fieldsOf 16 (drop 9 bs) (headOf bs))) e
 
 -- src/loading.rt:97:9
 header-requires : tie.Need-header-requires
@@ -47,13 +49,13 @@ fields-requires c κs = (header-accepted _ (sym (c .before .before .before .head
 returns : tie.Need-returns
 returns c =
     let e = parse-is _ (sym (c .before .before .before .before .header .ensures) ∙ c .before .before .v .given .1) in
-    (rw e (c .refused .ensures .0), rw e (c .refused .ensures .1))
+    rw e (ap₂ handed (ap said (c .refused .ensures .0)) (c .refused .ensures .1))
 
 -- src/loading.rt:93:1
 returns-2 : tie.Need-returns-2
 returns-2 c =
     let e = parse-is _ (sym (c .before .before .before .before .header .ensures) ∙ c .before .before .enum-told .given .1) in
-    (rw e (c .fields .ensures .0), rw e (c .fields .ensures .1))
+    rw e (c .fields .ensures)
 
 pub parse-spec : {M : Type 1} → statement M
 parse-spec =

@@ -1,4 +1,5 @@
-use mathlib.Core.Path.{sym, _∙_}
+use mathlib.Core.Path.{sym, ap, _∙_}
+use Rattle.layout.specs.Answers.{said}
 use borrow.Author.Needs.{needs}
 use Rattle.table.proofs.loading.table_check.Statement.{statement}
 use Rattle.table.proofs.loading.table_check.Tie as tie
@@ -21,14 +22,12 @@ enum-told c = search needs
 -- src/loading.rt:121:1
 returns : tie.Need-returns
 returns c =
-    let e = sym (c .before .before .before .load .ensures .0) ∙ c .before .v .given .1 in
-    rw e
+    sym (ap (λ v. said v .number) (c .before .v .given .1)) ∙ ap (λ h. h .said .number) (c .before .before .before .load .ensures)
 
 -- src/loading.rt:121:1
 returns-2 : tie.Need-returns-2
 returns-2 c =
-    let e = sym (c .before .before .load .ensures .0) ∙ c .enum-told .given .1 in
-    rw e
+    sym (ap (λ v. said v .number) (c .enum-told .given .1)) ∙ ap (λ h. h .said .number) (c .before .before .load .ensures)
 
 pub table-check-spec : {M : Type 1} → statement M
 table-check-spec = tie.close (tie.spec load-requires enum-known-v enum-told returns returns-2)

@@ -1,5 +1,5 @@
 use Rattle.limits.specs.Limits.{rectGood}
-use Rattle.table.specs.Format.{fieldSays}
+use Rattle.table.specs.Format.{fieldAsks}
 use mathlib.Core.Path.{sym, _∙_, ap}
 use borrow.Author.Tests.{le-leb, lt-leb, not-true, not-false}
 use borrow.Author.Needs.{needs}
@@ -17,12 +17,12 @@ starts-requires c κs = search needs
 
 -- src/reading.rt:47:9
 returns : tie.Need-returns
-unfolding fieldSays
+unfolding fieldAsks
 returns c = rw (sym (c .before .starts .ensures) ∙ not-true _ (c .if1 .taken))
 
 -- src/reading.rt:50:9
 returns-2 : tie.Need-returns-2
-unfolding fieldSays
+unfolding fieldAsks
 returns-2 c = rw (sym (c .before .before .starts .ensures) ∙ not-false _ (c .before .if1 .left), lt-leb _ _ (c .if2 .taken))
 
 -- src/reading.rt:52:19
@@ -35,7 +35,7 @@ rect-good-requires c κs = search needs
 
 -- src/reading.rt:53:9
 returns-3 : tie.Need-returns-3
-unfolding fieldSays
+unfolding fieldAsks
 returns-3 c =
     let s = c .before .before .before in
     rw (
@@ -46,7 +46,7 @@ returns-3 c =
 
 -- src/reading.rt:43:1
 returns-4 : tie.Need-returns-4
-unfolding fieldSays
+unfolding fieldAsks
 returns-4 c =
     let s = c .before .before .before in
     rw (

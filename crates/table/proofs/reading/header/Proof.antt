@@ -1,4 +1,4 @@
-use Rattle.table.specs.Format.{headerSays}
+use Rattle.table.specs.Format.{headerAsks}
 use mathlib.Core.Path.{sym, _∙_}
 use borrow.Author.Tests.{le-leb, lt-leb, not-true, not-false}
 use borrow.Author.Needs.{needs}
@@ -15,12 +15,12 @@ starts-requires c κs = search needs
 
 -- src/reading.rt:34:9
 returns : tie.Need-returns
-unfolding headerSays
+unfolding headerAsks
 returns c = rw (sym (c .before .starts .ensures) ∙ not-true _ (c .if1 .taken))
 
 -- src/reading.rt:37:9
 returns-2 : tie.Need-returns-2
-unfolding headerSays
+unfolding headerAsks
 returns-2 c = rw (sym (c .before .before .starts .ensures) ∙ not-false _ (c .before .if1 .left), lt-leb _ _ (c .if2 .taken))
 
 -- src/reading.rt:39:10
@@ -53,7 +53,7 @@ head-requires c κs = search needs
 
 -- src/reading.rt:30:1
 returns-3 : tie.Need-returns-3
-unfolding headerSays
+unfolding headerAsks
 returns-3 c =
     let s = c .before .before .before .before .before .before .before in
     rw (sym (s .before .before .starts .ensures) ∙ not-false _ (s .before .if1 .left), le-leb _ _ (s .if2 .left)) (c .head .ensures)

@@ -1,12 +1,13 @@
-use Rattle.table.proofs.Encoded.{length-file}
 use Rattle.limits.proofs.Granted.{granted}
-use Rattle.table.specs.Writing.{writeSays, outputOf}
+use Rattle.layout.specs.Answers.{accepted}
+use Rattle.table.specs.Writing.{fileLength, wrote, writeOf}
 use Rattle.table.specs.Format.{encode}
 use Rattle.layout.specs.Contents.{contents}
 use denote.Ref.{now}
 use borrow.Author.Tests.{le-leb, lt-leb, not-true, not-false}
 use lib.ListN.{drop}
-use mathlib.Core.List.{_++_}
+use mathlib.Core.List.{[], _∷_, _++_}
+use lib.IntN.{pos}
 use mathlib.Core.Path.{refl, sym, ap, _∙_}
 use Prim.Native.Nat.{_≤_}
 use native.Mathlib.Omega.{arith}
@@ -24,10 +25,10 @@ accepted-requires c κs = search needs
 
 -- src/writing.rt:77:9
 returns : tie.Need-returns
-unfolding writeSays outputOf
+unfolding writeOf
 returns c =
     let e = sym (c .before .accepted .ensures) ∙ not-true _ (c .if1 .taken) in
-    (rw e, rw e)
+    rw e
 
 -- src/writing.rt:80:17
 mul-n : tie.Need-mul-n
@@ -39,11 +40,11 @@ add-n c = let g = granted _ (sym (c .before .accepted .ensures) ∙ not-false _ 
 
 -- src/writing.rt:82:9
 returns-2 : tie.Need-returns-2
-unfolding writeSays outputOf
+unfolding writeOf
 returns-2 c =
     let e = sym (c .before .before .accepted .ensures) ∙ not-false _ (c .before .if1 .left) in
     let n = lt-leb _ _ (c .if2 .taken) in
-    (rw (e, n), rw (e, n))
+    rw (e, n)
 
 -- src/writing.rt:84:5
 put-requires : tie.Need-put-requires
@@ -57,13 +58,13 @@ same-length c = search needs
 
 -- src/writing.rt:72:1
 returns-3 : tie.Need-returns-3
-unfolding writeSays outputOf
+unfolding writeOf
 returns-3 c =
     let s = c .before .before .before .before in
     let t = s .before .before .before .before .args .t in
     let e = sym (s .before .before .accepted .ensures) ∙ not-false _ (s .before .if1 .left) in
     let n = le-leb _ _ (s .if2 .left) in
-    (rw (e, n), rw (e, n, length-file t) (c .before .before .put .ensures))
+    rw (e, n) (ap (wrote (accepted (pos (fileLength t) ∷ []))) (c .before .before .put .ensures))
 
 pub write-spec : {M : Type 1} → statement M
 write-spec =
