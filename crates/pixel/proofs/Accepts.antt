@@ -1,7 +1,7 @@
 -- What the one-pixel call's acceptance tells.
 -- Assumes nothing.
 use Prim.Native.Nat.{ℕ, _-_, _^_}
-use mathlib.Core.Path.{_≡_}
+use mathlib.Core.Path.{_≡_, sym, subst}
 use mathlib.Core.Bool.{true}
 use mathlib.Core.List.{List}
 use lib.Dec.{T}
@@ -10,11 +10,12 @@ use Rattle.arith.specs.All.{all}
 use Rattle.layout.specs.declared.Table.{Table}
 use Rattle.layout.specs.declared.Verdict.the-variants.{Accepted}
 use Rattle.limits.specs.Limits.{acceptable}
-use Rattle.limits.proofs.Asked.{ask-accepted}
-use Rattle.rule.specs.Questions.{askEach, widthGood, heightGood, placeGood, atMost}
+use Rattle.layout.specs.Answers.{verdict}
+use Rattle.layout.proofs.Questions.{AllYes, all-yes}
+use Rattle.rule.specs.Questions.{widthGood, heightGood, placeGood, atMost}
 use Rattle.rule.specs.Sums.{HasBits, sampleAt}
-use Rattle.rule.proofs.Asked.{each-accepted, has-bits}
-use Rattle.pixel.specs.Call.{pixelSays}
+use Rattle.rule.proofs.Asked.{has-bits}
+use Rattle.pixel.specs.Call.{pixelAsks}
 
 pub record Accepts (t : Table) (l : ℕ) (xs : List ℕ) (r c : ℕ) : Type 0 where
   pub table : acceptable t ≡ true
@@ -23,12 +24,14 @@ pub record Accepts (t : Table) (l : ℕ) (xs : List ℕ) (r c : ℕ) : Type 0 wh
   pub place : placeGood l (length xs) r c ≡ true
   pub bits : HasBits (t .b) (sampleAt l xs)
 
-pub accepts : (t : Table) (l : ℕ) (xs : List ℕ) (r c : ℕ) → pixelSays t l xs r c ≡ Accepted → Accepts t l xs r c
-unfolding pixelSays
+pub accepts : (t : Table) (l : ℕ) (xs : List ℕ) (r c : ℕ) → verdict (pixelAsks t l xs r c) ≡ Accepted → Accepts t l xs r c
+unfolding pixelAsks
 accepts t l xs r c e =
-    let p = ask-accepted 11 (acceptable t) _ e in
-    let q = ask-accepted 12 (widthGood l) _ (p .1) in
-    let s = ask-accepted 17 (heightGood l (length xs)) _ (q .1) in
-    let u = ask-accepted 20 (placeGood l (length xs) r c) _ (s .1) in
-    let v = each-accepted 18 (length xs) (atMost (2 ^ t .b - 1) xs) Accepted (u .1) in
-    record { table = p .0; width = q .0; height = s .0; place = u .0; bits = has-bits (t .b) l xs (v .0) }
+    let y = all-yes (pixelAsks t l xs r c) e in
+    record {
+      table = y .0;
+      width = y .1 .0;
+      height = y .1 .1 .0;
+      place = y .1 .1 .1 .0;
+      bits = has-bits (t .b) l xs (subst T (sym (y .1 .1 .1 .1 .0)) tt);
+    }

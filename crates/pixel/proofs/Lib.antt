@@ -1,3 +1,4 @@
+pub mod Answers
 pub mod Accepts
 pub mod Theorems
 pub mod Strips

@@ -9,14 +9,14 @@ use Rattle.arith.specs.Part.{posPart, negPart}
 use Rattle.arith.specs.Twos.{signed, fitsSigned}
 use Rattle.arith.specs.Floor.{floorDiv}
 use Rattle.layout.specs.Measure.{rowsOf, colsOf, lossFigure}
-use Rattle.limits.specs.Limits.{bitsGood, dropsGood, wordGood, headSays, edgesGood, rectGood, extreme, valueGood, within, acceptable}
-use Rattle.table.specs.Format.{marked, headerSays, fieldSays, fieldsOf, parseOf, loadOf}
-use Rattle.rule.specs.Questions.{askEach, widthGood, heightGood, placeGood}
+use Rattle.limits.specs.Limits.{bitsGood, dropsGood, wordGood, headAsks, edgesGood, rectGood, extreme, valueGood, within, acceptable}
+use Rattle.table.specs.Format.{marked, headerAsks, fieldAsks, fieldsOf, parseOf, loadOf}
+use Rattle.rule.specs.Questions.{widthGood, heightGood, placeGood}
 use Rattle.rule.specs.Sums.{sampleAt, covered, fullSum, columnSum, windowSum, cutSum, scaledSum}
 use Rattle.rule.specs.Pixels.{cutValue, pixelOf}
-use Rattle.pixel.specs.Call.{pixelSays, pixelAnswer}
+use Rattle.pixel.specs.Call.{pixelAsks, pixelAnswer}
 use Rattle.pixel.specs.Strips.{strips, gives, holds}
 
 pub strips-hold : T (holds strips)
-unfolding strips gives holds pixelAnswer pixelSays pixelOf cutValue scaledSum cutSum windowSum columnSum fullSum covered sampleAt askEach widthGood heightGood placeGood lossFigure loadOf parseOf fieldsOf fieldSays headerSays headSays marked within acceptable bitsGood dropsGood wordGood rectGood edgesGood valueGood extreme fitsSigned floorDiv signed sum sumℤ all firstNot tab rowsOf colsOf
+unfolding strips gives holds pixelAnswer pixelAsks pixelOf cutValue scaledSum cutSum windowSum columnSum fullSum covered sampleAt widthGood heightGood placeGood lossFigure loadOf parseOf fieldsOf fieldAsks headerAsks headAsks marked within acceptable bitsGood dropsGood wordGood rectGood edgesGood valueGood extreme fitsSigned floorDiv signed sum sumℤ all firstNot tab rowsOf colsOf
 strips-hold = tt

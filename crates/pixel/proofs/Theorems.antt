@@ -1,17 +1,20 @@
 -- Demand 3, whole.
 -- Assumes nothing.
 use Prim.Native.Nat.{ℕ}
-use mathlib.Core.Path.{_≡_, refl}
+use mathlib.Core.Path.{_≡_, refl, sym, ap, _∙_}
 use mathlib.Core.List.{List}
+use lib.Dec.{eqb}
 use lib.IntN.{pos}
 use Rattle.layout.specs.declared.Table.{Table}
-use Rattle.layout.specs.declared.Verdict.the-variants.{Accepted}
-use Rattle.layout.specs.Contents.{contents}
-use Rattle.table.specs.Format.{Bytes, loaded, loadOf}
+use Rattle.layout.specs.Contents.{Contents, contents}
+use Rattle.layout.specs.Answers.{refused}
+use Rattle.layout.proofs.Questions.{first-yes}
+use Rattle.table.specs.Format.{Bytes, refused as noTable, loaded, loadOf, tableFrom}
+use Rattle.table.proofs.Theorems.{loaded-accepted, refused-table}
 use Rattle.rule.specs.Sums.{sampleAt}
 use Rattle.rule.specs.Pixels.{pixelOf}
 use Rattle.rule.proofs.Accurate.{accuracy}
-use Rattle.pixel.specs.Call.{pixelSays, pixelAnswer}
+use Rattle.pixel.specs.Call.{pixelAsks, pixelAnswer}
 use Rattle.pixel.specs.Demand.{Demand3}
 
 -- For every table that loading accepts, every scan that the one-pixel call accepts with it, and every place in that scan: for every
@@ -21,7 +24,25 @@ use Rattle.pixel.specs.Demand.{Demand3}
 -- whose division by 2^t the call answers.
 pub demand-3 :
     (bs : List ℕ) (t : Table) → Bytes bs → loadOf bs ≡ loaded (contents t)
-    → (l : ℕ) (xs : List ℕ) (r c : ℕ) → pixelSays t l xs r c ≡ Accepted
+    → (l : ℕ) (xs : List ℕ) (r c : ℕ) → pixelAnswer t l xs r c .kind ≡ 1
     → Demand3 t l xs r c
 unfolding pixelAnswer pixelOf
-demand-3 bs t byte e l xs r c a = record { accuracy = accuracy t (sampleAt l xs) (pos r) (pos c); answer = rw a refl }
+demand-3 bs t byte e l xs r c a =
+    record {
+      accuracy = accuracy t (sampleAt l xs) (pos r) (pos c);
+      answer = first-yes (λ s. eqb (s .kind) 0) (pixelAsks t l xs r c) refused _ (λ n p. refl) (ap (λ k. eqb k 0) a) .1;
+    }
+
+-- J3: the same of the table that loading hands out for an accepted file
+pub demand-3-file :
+    (bs : List ℕ) (table : Contents) → Bytes bs → loadOf bs ≡ loaded table
+    → (l : ℕ) (xs : List ℕ) (r c : ℕ) → pixelAnswer (tableFrom (loadOf bs)) l xs r c .kind ≡ 1
+    → Demand3 (tableFrom (loadOf bs)) l xs r c
+demand-3-file bs table byte e =
+    demand-3 bs (tableFrom (loadOf bs)) byte (e ∙ ap loaded (sym (loaded-accepted bs table byte e .0)))
+
+-- J4: with the table that loading hands out for a refused file the call is refused by question 11
+pub refused-pixel : (bs : List ℕ) (n p : ℕ) → loadOf bs ≡ noTable n p
+    → (l : ℕ) (xs : List ℕ) (r c : ℕ) → pixelAnswer (tableFrom (loadOf bs)) l xs r c ≡ refused 11 0
+unfolding pixelAnswer pixelAsks
+refused-pixel bs n p e l xs r c = rw (refused-table bs n p e .0)

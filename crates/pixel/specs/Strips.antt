@@ -9,13 +9,11 @@ use lib.IntN.{ℤ, pos, negsuc}
 use lib.Signed.{leZ}
 use Rattle.arith.specs.All.{all}
 use Rattle.layout.specs.declared.Table.{Table}
-use Rattle.layout.specs.Answers.{said}
+use Rattle.layout.specs.Answers.{Said}
 use Rattle.layout.specs.Contents.{rect}
 use Rattle.layout.specs.Measure.{lossFigure}
-use Rattle.table.specs.Format.{loadOf, verdictOf, tableFrom}
+use Rattle.table.specs.Format.{loadOf, saidOf, tableFrom}
 use Rattle.rule.specs.Sums.{sampleAt, fullSum, scaledSum}
-use Rattle.pixel.specs.declared.Found.{Found}
-use Rattle.pixel.specs.declared.Found.the-variants.{Pixel, Refused}
 use Rattle.pixel.specs.Call.{pixelAnswer}
 
 -- a header of b, q1, q2, q3, t and w
@@ -66,14 +64,19 @@ strips =
     ∷ loads (head 8 0 0 0 2 16 ++ (0x02 ∷ 0x00 ∷ 0x06 ∷ 0x01 ∷ 0x01 ∷ 0xfe ∷ 0xfe ∷ 0x00 ∷ [])) 2
     ∷ []
 
--- an answer is this pixel
-abbrev pub isPixel : Found → ℤ → Bool
-isPixel (Pixel p) z = leZ p z && leZ z p
-isPixel (Refused number place) z = false
+-- there is one value, and it is this
+abbrev pub isOnly : List ℤ → ℤ → Bool
+isOnly [] z = false
+isOnly (p ∷ []) z = leZ p z && leZ z p
+isOnly (p ∷ q ∷ ps) z = false
+
+-- a call says this pixel
+abbrev pub isPixel : Said → ℤ → Bool
+isPixel s z = eqb (s .kind) 1 && isOnly (s .values) z
 
 -- the definitions give a strip
 unfoldable pub gives : Strip → Bool
-gives (loads file number) = eqb (said (verdictOf (loadOf file)) .number) number
+gives (loads file number) = eqb (saidOf (loadOf file) .number) number
 gives (shows file l scan pixels) =
     eqb (length pixels) (length scan)
     && all (length scan) (λ k. isPixel (pixelAnswer (tableFrom (loadOf file)) l scan (k / l) (k % l)) (getD pixels k (pos 0)))

@@ -3,7 +3,8 @@ ghost use mathlib.Core.Path.{_≡_};
 ghost use Prim.Native.Nat.{_≤_};
 ghost use lib.ListN.{length};
 ghost use Rattle.rule.specs.Questions.{heightGood, placeGood};
-ghost use Rattle.pixel.specs.Call.{pixelSays};
+ghost use Rattle.layout.specs.Answers.{verdict};
+ghost use Rattle.pixel.specs.Call.{pixelAsks};
 use arith::power;
 use layout::Table;
 use layout::Verdict;
@@ -33,7 +34,7 @@ fn place_good(width: usize, n: usize, r: usize, c: usize) -> bool
 
 // Questions 11, 12, 17, 20 and 18.
 pub fn asked(t: Table, width: usize, samples: &[u16], r: usize, c: usize) -> Verdict
-    ensures { λ v. ⌜ v ≡ pixelSays t width (now (samples .entry)) r c ⌝ }
+    ensures { λ v. ⌜ v ≡ verdict (pixelAsks t width (now (samples .entry)) r c) ⌝ }
 {
     if !accepted(t) {
         return Verdict::Refused(11, 0);

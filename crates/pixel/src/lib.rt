@@ -1,6 +1,6 @@
 // The one-pixel call: the pixel at a place of a scan that is lent whole, worked out from the covered samples.
 ghost use mathlib.Core.Path.{_≡_};
-ghost use Rattle.pixel.specs.Call.{pixelAnswer};
+ghost use Rattle.pixel.specs.Call.{foundSaid, pixelAnswer};
 
 mod ask;
 mod sums;
@@ -20,7 +20,7 @@ pub enum Found {
 // The pixel at row r, column c of a scan of rows of `width` samples: questions 11, 12, 17, 20 and 18, then the
 // pixel rule. Only question 18 looks at more than the covered samples.
 pub fn pixel(t: Table, width: usize, samples: &[u16], r: usize, c: usize) -> Found
-    ensures { λ f. ⌜ f ≡ pixelAnswer t width (now (samples .entry)) r c ⌝ }
+    ensures { λ f. ⌜ foundSaid f ≡ pixelAnswer t width (now (samples .entry)) r c ⌝ }
 {
     let v = asked(t, width, samples, r, c);
     match v {

@@ -103,10 +103,10 @@ file-again bs c out byte e h =
     rw (a .1, file, size, le-leb (length bs) (length out) h)
 
 -- J4: the table of a refused file is refused by question 11, and writing it leaves the output as it was
-pub refused-table : (bs : List ℕ) (n p : ℕ) (out : List ℕ) → loadOf bs ≡ refused n p
-    → (acceptable (tableFrom (loadOf bs)) ≡ false) × (writeOf (tableFrom (loadOf bs)) out ≡ wrote (refusal 11 0) out)
+pub refused-table : (bs : List ℕ) (n p : ℕ) → loadOf bs ≡ refused n p
+    → (acceptable (tableFrom (loadOf bs)) ≡ false) × ((out : List ℕ) → writeOf (tableFrom (loadOf bs)) out ≡ wrote (refusal 11 0) out)
 unfolding acceptable within bitsGood writeOf
-refused-table bs n p out e = rw e (refl, refl)
+refused-table bs n p e = rw e (refl, λ out. refl)
 
 -- the first 154 bytes of a file are enough: the table has at most 9 + 9·16 = 153, and of what follows only whether there is a byte
 -- matters. The first 153 are not: those of a longer file may be a table, which is accepted

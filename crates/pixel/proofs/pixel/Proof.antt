@@ -1,11 +1,19 @@
 use Rattle.pixel.proofs.Accepts.{Accepts, accepts}
-use Rattle.pixel.specs.declared.Found.the-variants.{Pixel}
-use Rattle.pixel.specs.Call.{pixelAnswer}
+use Rattle.layout.specs.declared.Verdict.{Verdict}
+use Rattle.layout.specs.declared.Table.{Table}
+use Rattle.layout.specs.Answers.{refused, accepted, verdict}
+use Rattle.layout.proofs.Questions.{onVerdict, first-verdict}
+use Rattle.rule.specs.Sums.{sampleAt}
+use Rattle.rule.specs.Pixels.{pixelOf}
+use Rattle.pixel.specs.Call.{pixelAsks, pixelAnswer}
 use Rattle.rule.proofs.Asked.{width-bounds, height-bounds, place-bounds}
 use mir.Facts.{toZ-ofZ}
 use lib.ListN.{length}
 use native.Mathlib.Omega.{arith}
-use mathlib.Core.Path.{refl, sym, ap, _∙_}
+use mathlib.Core.Path.{_≡_, refl, sym, ap, _∙_}
+use mathlib.Core.List.{List, [], _∷_}
+use lib.IntN.{pos}
+use Prim.Native.Nat.{ℕ}
 use borrow.Author.Needs.{needs}
 use Rattle.pixel.proofs.pixel.Statement.{statement}
 use Rattle.pixel.proofs.pixel.Tie as tie
@@ -13,6 +21,14 @@ use Rattle.pixel.proofs.pixel.Reads as reads
 use Rattle.pixel.proofs.pixel.Lts as lts
 use Rattle.pixel.proofs.ask.asked.Reads as asked-reads
 use Rattle.pixel.proofs.value.value.Reads as value-reads
+
+-- what the call says, by the verdict of its questions
+answer-is : (t : Table) (l : ℕ) (xs : List ℕ) (r c : ℕ) {v : Verdict} → verdict (pixelAsks t l xs r c) ≡ v
+    → pixelAnswer t l xs r c ≡ onVerdict v refused (accepted (pixelOf t (sampleAt l xs) (pos r) (pos c) ∷ []))
+unfolding pixelAnswer
+answer-is t l xs r c e =
+    first-verdict (pixelAsks t l xs r c) refused (accepted (pixelOf t (sampleAt l xs) (pos r) (pos c) ∷ []))
+    ∙ ap (λ v. onVerdict v refused (accepted (pixelOf t (sampleAt l xs) (pos r) (pos c) ∷ []))) e
 
 -- src/lib.rt:24:9
 asked-requires : tie.Need-asked-requires
@@ -37,13 +53,13 @@ value-requires c κs = let a = c .before .before .before .before .args in
 
 -- src/lib.rt:21:1
 returns : tie.Need-returns
-unfolding pixelAnswer
-returns c = rw (sym (c .before .before .before .asked .ensures) ∙ c .before .v .given .1) refl
+returns c = sym (answer-is _ _ _ _ _ (sym (c .before .before .before .asked .ensures) ∙ c .before .v .given .1))
 
 -- src/lib.rt:21:1
 returns-2 : tie.Need-returns-2
-unfolding pixelAnswer
-returns-2 c = rw (sym (c .before .before .before .asked .ensures) ∙ c .before .enum-told .given .1) (ap Pixel (toZ-ofZ (record { sfits = c .value .ok }) ∙ c .value .ensures))
+returns-2 c =
+    ap (λ p. accepted (p ∷ [])) (toZ-ofZ (record { sfits = c .value .ok }) ∙ c .value .ensures)
+    ∙ sym (answer-is _ _ _ _ _ (sym (c .before .before .before .asked .ensures) ∙ c .before .enum-told .given .1))
 
 pub pixel-spec : {M : Type 1} → statement M
 pixel-spec =

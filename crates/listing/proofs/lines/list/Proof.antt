@@ -1,6 +1,7 @@
 use Rattle.listing.specs.Listing.{refusedLine, tableLines, listingOf}
 use Rattle.table.proofs.Sound.{refused-from, loaded-from, load-sound}
-use Rattle.table.specs.Format.{loadOf, verdictOf, tableFrom}
+use Rattle.layout.specs.Answers.{said}
+use Rattle.table.specs.Format.{loadOf, tableFrom, handed, handedOut}
 use Rattle.limits.specs.Limits.{bitsGood, dropsGood}
 use Rattle.layout.specs.declared.Verdict.the-variants.{Accepted, Refused}
 use Rattle.layout.specs.declared.Verdict.{Verdict}
@@ -24,17 +25,18 @@ record Read (bs : List ℕ) (t : Table) : Type 0 where
   drops : (bitsGood (t .b) ≡ true) × (dropsGood (t .b) (t .q1) (t .q2) (t .q3) ≡ true)
   few : t .count ≤ 16
 
-read : (bs : List ℕ) (v : Verdict) (t : Table) → v ≡ verdictOf (loadOf bs) → t ≡ tableFrom (loadOf bs) → v ≡ Accepted → Read bs t
+read : (bs : List ℕ) (v : Verdict) (t : Table) → handed (said v) t ≡ handedOut (loadOf bs) → v ≡ Accepted → Read bs t
 unfolding listingOf
-read bs v t e h a =
-    let l = loaded-from (loadOf bs) (sym e ∙ a) in
+read bs v t e a =
+    let l = loaded-from (loadOf bs) (sym (ap (λ h. h .said) e) ∙ ap said a) in
     let p = load-sound bs (l .0) (l .1) .0 in
-    subst (Read bs) (sym (h ∙ ap tableFrom (l .1)))
+    subst (Read bs) (sym (ap (λ h. h .table) e ∙ ap tableFrom (l .1)))
     record { listed = ap listingOf (l .1); drops = (p .head .bits, p .head .drops); few = p .most }
 
-refused-list : (bs : List ℕ) (v : Verdict) (n p : ℕ) → v ≡ verdictOf (loadOf bs) → v ≡ Refused n p → listingOf (loadOf bs) ≡ refusedLine n
+refused-list : (bs : List ℕ) (v : Verdict) (t : Table) (n p : ℕ) → handed (said v) t ≡ handedOut (loadOf bs) → v ≡ Refused n p
+    → listingOf (loadOf bs) ≡ refusedLine n
 unfolding listingOf
-refused-list bs v n p e a = ap listingOf (refused-from (loadOf bs) n p (sym e ∙ a))
+refused-list bs v t n p e a = ap listingOf (refused-from (loadOf bs) n p (sym (ap (λ h. h .said) e) ∙ ap said a))
 
 -- src/lines.rt:107:9
 load-requires : tie.Need-load-requires
@@ -56,7 +58,7 @@ enum-told c = search needs
 put-table-requires : tie.Need-put-table-requires
 put-table-requires c κs =
     let l = c .before .before .before .before .load .ensures in
-    let r = read _ _ _ (l .0) (l .1) (c .before .before .enum-told .given .1) in
+    let r = read _ _ _ l (c .before .before .enum-told .given .1) in
     (r .drops, (r .few, search needs))
 
 -- src/lines.rt:103:1
@@ -67,7 +69,7 @@ same-length c = search needs
 returns : tie.Need-returns
 returns c =
     let l = c .before .before .before .before .before .before .before .load .ensures in
-    rw (refused-list _ _ _ _ (l .0) (c .before .before .before .before .before .v .given .1)) (c .before .before .put-refused .ensures)
+    rw (refused-list _ _ _ _ _ l (c .before .before .before .before .before .v .given .1)) (c .before .before .put-refused .ensures)
 
 -- src/lines.rt:103:1
 same-length-2 : tie.Need-same-length-2
@@ -77,7 +79,7 @@ same-length-2 c = search needs
 returns-2 : tie.Need-returns-2
 returns-2 c =
     let l = c .before .before .before .before .before .before .before .load .ensures in
-    rw (read _ _ _ (l .0) (l .1) (c .before .before .before .before .before .enum-told .given .1) .listed) (c .before .before .put-table .ensures)
+    rw (read _ _ _ l (c .before .before .before .before .before .enum-told .given .1) .listed) (c .before .before .put-table .ensures)
 
 pub list-spec : {M : Type 1} → statement M
 list-spec =

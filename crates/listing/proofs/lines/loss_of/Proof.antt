@@ -1,6 +1,8 @@
-use Rattle.limits.specs.Figures.{figureOf}
+use Rattle.limits.specs.Figures.{figureSaid, lossOf}
+use Rattle.limits.proofs.Answers.{figure-injective}
 use Rattle.limits.specs.Limits.{bitsGood, dropsGood}
 use Rattle.layout.specs.Measure.{lossFigure}
+use Rattle.limits.specs.declared.figure.Figure.{Figure}
 use Rattle.limits.specs.declared.figure.Figure.the-variants.{Loss}
 use Rattle.layout.specs.declared.Table.{Table}
 use Rattle.layout.specs.declared.Rect.{Rect}
@@ -15,9 +17,11 @@ use Rattle.listing.proofs.lines.loss_of.Reads as reads
 use Rattle.listing.proofs.lines.loss_of.Lts as lts
 use Rattle.limits.proofs.loss.Reads as loss-reads
 
-figure-is : (t : Table) (r : Rect) → (bitsGood (t .b) ≡ true) × (dropsGood (t .b) (t .q1) (t .q2) (t .q3) ≡ true) → figureOf t r ≡ Loss (lossFigure t r)
-unfolding figureOf
-figure-is t r h = rw (h .0, h .1)
+-- within the limits the call answers the figure
+figure-is : (t : Table) (r : Rect) (f : Figure) → (bitsGood (t .b) ≡ true) × (dropsGood (t .b) (t .q1) (t .q2) (t .q3) ≡ true)
+    → figureSaid f ≡ lossOf t r → Loss (lossFigure t r) ≡ f
+unfolding lossOf
+figure-is t r f h e = figure-injective (Loss (lossFigure t r)) f (sym (e ∙ rw (h .0, h .1)))
 
 -- src/lines.rt:35:9
 loss-requires : tie.Need-loss-requires
@@ -35,14 +39,14 @@ enum-told c = search needs
 returns : tie.Need-returns
 returns c =
     let s = c .before .before .before .before in
-    let e = sym (figure-is (s .args .t) (s .args .r) (s .pre)) ∙ sym (c .before .before .before .loss .ensures) ∙ c .before .f .given .1 in
+    let e = figure-is (s .args .t) (s .args .r) _ (s .pre) (c .before .before .before .loss .ensures) ∙ c .before .f .given .1 in
     cc
 
 -- src/lines.rt:31:1
 returns-2 : tie.Need-returns-2
 returns-2 c =
     let s = c .before .before .before in
-    let e = sym (figure-is (s .args .t) (s .args .r) (s .pre)) ∙ sym (c .before .before .loss .ensures) ∙ c .enum-told .given .1 in
+    let e = figure-is (s .args .t) (s .args .r) _ (s .pre) (c .before .before .loss .ensures) ∙ c .enum-told .given .1 in
     absurd (let z : _≡_ {A = ℕ} 0 1 = cc in omega arith)
 
 pub loss-of-spec : {M : Type 1} → statement M

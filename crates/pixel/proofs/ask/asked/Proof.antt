@@ -2,16 +2,18 @@ use Rattle.layout.specs.declared.Verdict.the-variants.{Accepted, Refused}
 use mathlib.Core.Path.{refl}
 use Rattle.rule.proofs.Asked.{width-bounds, height-bounds}
 use lib.Pow.{pow-pos, pow-mono}
-use Rattle.rule.proofs.Asked.{each-fails, each-holds}
+use Rattle.arith.specs.All.{all}
+use Rattle.arith.proofs.Bools.{true-of}
+use Rattle.arith.proofs.Firsts.{first-below, first-beyond}
 use Rattle.limits.proofs.Granted.{Granted, granted}
 use lib.ListN.{length}
-use Rattle.rule.specs.Questions.{heightGood, placeGood, askEach, atMost}
+use Rattle.rule.specs.Questions.{heightGood, placeGood, atMost}
 use Rattle.limits.specs.Limits.{acceptable}
 use Rattle.rule.specs.Questions.{widthGood}
 use Prim.Native.Nat.{ℕ, _≤_, _-_, _^_, _+_}
 use mathlib.Core.Bool.{Bool, true, false, not}
 use native.Mathlib.Omega.{arith}
-use Rattle.pixel.specs.Call.{pixelSays}
+use Rattle.pixel.specs.Call.{pixelAsks}
 use borrow.Author.Tests.{not-true, not-false, leb-true}
 use mathlib.Core.Path.{_≡_, sym, ap, _∙_}
 use borrow.Author.Needs.{needs}
@@ -64,7 +66,7 @@ accepted-requires c κs = search needs
 
 -- src/ask.rt:45:9
 returns : tie.Need-returns
-unfolding pixelSays
+unfolding pixelAsks
 returns c = rw (sym (c .before .accepted .ensures) ∙ not-true _ (c .if1 .taken))
 
 -- src/ask.rt:47:9
@@ -73,7 +75,7 @@ width-good-requires c κs = search needs
 
 -- src/ask.rt:48:9
 returns-2 : tie.Need-returns-2
-unfolding pixelSays
+unfolding pixelAsks
 returns-2 c = let s = c .before in
     let u = s .before in
     rw (yes (u .before .accepted .ensures) (u .if1 .left), no (s .width-good .ensures) (c .if2 .taken))
@@ -84,7 +86,7 @@ height-good-requires c κs = width-bounds (yes (c .before .width-good .ensures) 
 
 -- src/ask.rt:52:9
 returns-3 : tie.Need-returns-3
-unfolding pixelSays
+unfolding pixelAsks
 returns-3 c = let s = c .before in
     let u = s .before in
     let v = u .before .before in
@@ -97,7 +99,7 @@ place-good-requires c κs = let u = c .before .before in
 
 -- src/ask.rt:55:9
 returns-4 : tie.Need-returns-4
-unfolding pixelSays
+unfolding pixelAsks
 returns-4 c = let s = c .before in
     let x = s .before in
     let u = x .before .before in
@@ -136,22 +138,22 @@ cast-t13 c = let s = c .before .before .before in
 
 -- src/ask.rt:59:9
 returns-5 : tie.Need-returns-5
-unfolding pixelSays
+unfolding pixelAsks
 returns-5 c = let p = c .before .before in
     let y = answered (p .before) in
     let a = start (p .before) .args in
     let e = rw (power-is p) at (c .before .first-above .ensures) in
-    rw (y .table, y .width, y .height, y .place, each-fails 18 (length (a .samples .now)) (atMost (2 ^ a .t .b - 1) (a .samples .now)) Accepted (rw (← e) (c .if5 .taken)))
+    rw (y .table, y .width, y .height, y .place, first-below (length (a .samples .now)) (atMost (2 ^ a .t .b - 1) (a .samples .now)) (rw (← e) (c .if5 .taken)))
     (ap (Refused 18) e)
 
 -- src/ask.rt:41:1
 returns-6 : tie.Need-returns-6
-unfolding pixelSays
+unfolding pixelAsks
 returns-6 c = let p = c .before .before in
     let y = answered (p .before) in
     let a = start (p .before) .args in
     let e = rw (power-is p) at (c .before .first-above .ensures) in
-    rw (y .table, y .width, y .height, y .place, each-holds 18 (length (a .samples .now)) (atMost (2 ^ a .t .b - 1) (a .samples .now)) Accepted (rw (← e) (c .if5 .left)))
+    rw (y .table, y .width, y .height, y .place, true-of (all (length (a .samples .now)) (atMost (2 ^ a .t .b - 1) (a .samples .now))) (first-beyond (length (a .samples .now)) (atMost (2 ^ a .t .b - 1) (a .samples .now)) (rw (← e) (c .if5 .left))))
     refl
 
 pub asked-spec : {M : Type 1} → statement M
