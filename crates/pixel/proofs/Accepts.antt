@@ -1,18 +1,17 @@
 -- What the one-pixel call's acceptance tells.
 -- Assumes nothing.
-use Prim.Native.Nat.{ℕ, _-_, _^_}
+use Prim.Native.Nat.{ℕ}
 use mathlib.Core.Path.{_≡_, sym, subst}
 use mathlib.Core.Bool.{true}
 use mathlib.Core.List.{List}
 use lib.Dec.{T}
 use lib.ListN.{length}
-use Rattle.arith.specs.All.{all}
 use Rattle.layout.specs.declared.Table.{Table}
 use Rattle.layout.specs.declared.Verdict.the-variants.{Accepted}
 use Rattle.limits.specs.Limits.{acceptable}
 use Rattle.layout.specs.Answers.{verdict}
-use Rattle.layout.proofs.Questions.{AllYes, all-yes}
-use Rattle.rule.specs.Questions.{widthGood, heightGood, placeGood, atMost}
+use Rattle.layout.proofs.Questions.{all-yes}
+use Rattle.rule.specs.Questions.{widthGood, heightGood, placeGood}
 use Rattle.rule.specs.Sums.{HasBits, sampleAt}
 use Rattle.rule.proofs.Asked.{has-bits}
 use Rattle.pixel.specs.Call.{pixelAsks}

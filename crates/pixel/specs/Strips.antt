@@ -1,6 +1,6 @@
 -- The papers' marked strips, all of them.
 -- Assumes nothing.
-use Prim.Native.Nat.{ℕ, _+_, _-_, _/_, _%_}
+use Prim.Native.Nat.{ℕ, _+_, _/_, _%_}
 use mathlib.Core.Bool.{Bool, true, false, _&&_}
 use mathlib.Core.List.{List, [], _∷_, _++_}
 use lib.Dec.{eqb}
@@ -8,7 +8,6 @@ use lib.ListN.{length, getD, replicate}
 use lib.IntN.{ℤ, pos, negsuc}
 use lib.Signed.{leZ}
 use Rattle.arith.specs.All.{all}
-use Rattle.layout.specs.declared.Table.{Table}
 use Rattle.layout.specs.Answers.{Said}
 use Rattle.layout.specs.Contents.{rect}
 use Rattle.layout.specs.Measure.{lossFigure}

@@ -1,7 +1,6 @@
 // The questions of the one-pixel call.
 ghost use mathlib.Core.Path.{_≡_};
 ghost use Prim.Native.Nat.{_≤_};
-ghost use lib.ListN.{length};
 ghost use Rattle.rule.specs.Questions.{heightGood, placeGood};
 ghost use Rattle.layout.specs.Answers.{verdict};
 ghost use Rattle.pixel.specs.Call.{pixelAsks};

@@ -1,13 +1,13 @@
 -- A table within the limits, written out: loading its file gives the table back.
 -- Assumes nothing.
-use Prim.Native.Nat.{ℕ, zero, suc, _+_, _*_, _/_, _%_, _≤_, _<_}
+use Prim.Native.Nat.{ℕ, zero, suc, _+_, _/_, _%_, _≤_, _<_}
 use native.Mathlib.Omega.{arith}
 use native.Mathlib.Nat.{div-add-mod'}
-use mathlib.Core.Path.{_≡_, refl, sym, ap, ap₂, _∙_, subst}
-use mathlib.Core.Bool.{Bool, true, cond, _&&_}
+use mathlib.Core.Path.{_≡_, refl, sym, ap, _∙_, subst}
+use mathlib.Core.Bool.{true, cond, _&&_}
 use mathlib.Core.List.{List, [], _∷_, _++_, append-assoc, append-nil}
 use lib.Dec.{T, leb, ltb, leb→le, ltb→lt}
-use lib.ListN.{length, getD, drop, length-append}
+use lib.ListN.{length, getD, drop}
 use borrow.Author.Tests.{le-leb}
 use mir.Facts.{and-yes}
 use Rattle.arith.specs.All.{all}
@@ -20,9 +20,9 @@ use Rattle.layout.specs.declared.Verdict.the-variants.{Accepted}
 use Rattle.layout.specs.Contents.{Contents, noRect}
 use Rattle.limits.specs.Limits.{bitsGood, dropsGood, wordGood, rectGood, valueGood, within}
 use Rattle.layout.specs.Answers.{verdict}
-use Rattle.table.specs.Format.{Bytes, Outcome, loaded, refused, marked, headOf, rectOf, plus, headerAsks, fieldAsks, fieldsOf, parseOf, fitOf, loadOf, encodeHead, encodeRect, encodeRects, encode}
+use Rattle.table.specs.Format.{Bytes, loaded, refused, marked, rectOf, plus, headerAsks, fieldAsks, fieldsOf, parseOf, fitOf, loadOf, encodeHead, encodeRect, encodeRects, encode}
 use Rattle.limits.specs.Limits.{headAsks}
-use Rattle.limits.proofs.Bounds.{RectBounds, rect-bounds, edge-fits}
+use Rattle.limits.proofs.Bounds.{rect-bounds, edge-fits}
 use Rattle.table.proofs.Structs.{with-rects}
 use Rattle.table.proofs.Fields.{fields-end, fields-step, parse-step}
 

@@ -1,15 +1,15 @@
 -- The equations of `fieldsOf` and `parseOf`, by the verdicts of their questions.
 -- Assumes nothing.
-use Prim.Native.Nat.{ℕ, zero, suc, _<_, _≤_}
+use Prim.Native.Nat.{ℕ, zero, suc, _<_}
 use native.Mathlib.Omega.{arith}
-use mathlib.Core.Path.{_≡_, refl}
+use mathlib.Core.Path.{_≡_}
 use mathlib.Core.List.{List}
 use lib.ListN.{length, drop}
 use borrow.Author.Tests.{eq-eqb, ne-eqb}
 use Rattle.layout.specs.Contents.{Contents}
 use Rattle.layout.specs.Answers.{verdict}
 use Rattle.layout.proofs.Questions.{onVerdict, first-verdict}
-use Rattle.table.specs.Format.{Outcome, refused, headOf, plus, rectOf, headerAsks, fieldAsks, atEnd, fieldsOf, parseOf}
+use Rattle.table.specs.Format.{refused, headOf, plus, rectOf, headerAsks, fieldAsks, atEnd, fieldsOf, parseOf}
 
 pub fields-end : (left : ℕ) (bs : List ℕ) (c : Contents) → length bs ≡ 0 → fieldsOf left bs c ≡ atEnd c
 unfolding fieldsOf

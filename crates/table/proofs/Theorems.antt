@@ -1,6 +1,6 @@
 -- What is promised of tables, loading and writing. `loadOf bs` is what loading the bytes bs comes to, `loaded c` the table c.
 -- Assumes nothing.
-use Prim.Native.Nat.{ℕ, _+_, _/_, _%_, _*_, _≤_, _<_}
+use Prim.Native.Nat.{ℕ, _+_, _≤_}
 use native.Mathlib.Omega.{arith}
 use mathlib.Core.Path.{_≡_, refl, sym, ap, _∙_, subst}
 use mathlib.Core.Logic.{_↔_}
@@ -15,7 +15,6 @@ use Rattle.arith.proofs.Alls.{all-of}
 use Rattle.arith.proofs.Bools.{true-of}
 use lib.ListN.{length, getD, take, drop}
 use lib.IntN.{pos}
-use Rattle.layout.specs.declared.Rect.{Rect}
 use Rattle.layout.specs.declared.Table.{Table}
 use Rattle.layout.specs.Contents.{Contents, noRect, contents}
 use Rattle.layout.specs.Answers.{refused as refusal, accepted}

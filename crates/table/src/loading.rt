@@ -2,7 +2,7 @@
 ghost use mathlib.Core.Path.{_≡_};
 ghost use Prim.Native.Nat.{_≤_};
 ghost use lib.ListN.{length, drop};
-ghost use Rattle.layout.specs.Contents.{noRects, contents, tableOf};
+ghost use Rattle.layout.specs.Contents.{noRects, tableOf};
 ghost use Rattle.layout.specs.Answers.{said};
 ghost use Rattle.table.specs.Format.{headOf, fieldsOf, parseOf, loadOf, saidOf, handed, handedOut};
 use crate::reading::field;

@@ -1,4 +1,4 @@
-use Rattle.pixel.proofs.Accepts.{Accepts, accepts}
+use Rattle.pixel.proofs.Accepts.{accepts}
 use Rattle.layout.specs.declared.Verdict.{Verdict}
 use Rattle.layout.specs.declared.Table.{Table}
 use Rattle.layout.specs.Answers.{refused, accepted, verdict}
@@ -10,7 +10,7 @@ use Rattle.rule.proofs.Asked.{width-bounds, height-bounds, place-bounds}
 use mir.Facts.{toZ-ofZ}
 use lib.ListN.{length}
 use native.Mathlib.Omega.{arith}
-use mathlib.Core.Path.{_≡_, refl, sym, ap, _∙_}
+use mathlib.Core.Path.{_≡_, sym, ap, _∙_}
 use mathlib.Core.List.{List, [], _∷_}
 use lib.IntN.{pos}
 use Prim.Native.Nat.{ℕ}

@@ -1,20 +1,20 @@
-use Rattle.layout.specs.declared.Verdict.the-variants.{Accepted, Refused}
+use Rattle.layout.specs.declared.Verdict.the-variants.{Refused}
 use mathlib.Core.Path.{refl}
 use Rattle.rule.proofs.Asked.{width-bounds, height-bounds}
 use lib.Pow.{pow-pos, pow-mono}
 use Rattle.arith.specs.All.{all}
 use Rattle.arith.proofs.Bools.{true-of}
 use Rattle.arith.proofs.Firsts.{first-below, first-beyond}
-use Rattle.limits.proofs.Granted.{Granted, granted}
+use Rattle.limits.proofs.Granted.{granted}
 use lib.ListN.{length}
 use Rattle.rule.specs.Questions.{heightGood, placeGood, atMost}
 use Rattle.limits.specs.Limits.{acceptable}
 use Rattle.rule.specs.Questions.{widthGood}
-use Prim.Native.Nat.{ℕ, _≤_, _-_, _^_, _+_}
+use Prim.Native.Nat.{_-_, _^_}
 use mathlib.Core.Bool.{Bool, true, false, not}
 use native.Mathlib.Omega.{arith}
 use Rattle.pixel.specs.Call.{pixelAsks}
-use borrow.Author.Tests.{not-true, not-false, leb-true}
+use borrow.Author.Tests.{not-true, not-false}
 use mathlib.Core.Path.{_≡_, sym, ap, _∙_}
 use borrow.Author.Needs.{needs}
 use Rattle.pixel.proofs.ask.asked.Statement.{statement}
@@ -143,7 +143,9 @@ returns-5 c = let p = c .before .before in
     let y = answered (p .before) in
     let a = start (p .before) .args in
     let e = rw (power-is p) at (c .before .first-above .ensures) in
-    rw (y .table, y .width, y .height, y .place, first-below (length (a .samples .now)) (atMost (2 ^ a .t .b - 1) (a .samples .now)) (rw (← e) (c .if5 .taken)))
+    let n = length (a .samples .now) in
+    let test = atMost (2 ^ a .t .b - 1) (a .samples .now) in
+    rw (y .table, y .width, y .height, y .place, first-below n test (rw (← e) (c .if5 .taken)))
     (ap (Refused 18) e)
 
 -- src/ask.rt:41:1
@@ -153,7 +155,9 @@ returns-6 c = let p = c .before .before in
     let y = answered (p .before) in
     let a = start (p .before) .args in
     let e = rw (power-is p) at (c .before .first-above .ensures) in
-    rw (y .table, y .width, y .height, y .place, true-of (all (length (a .samples .now)) (atMost (2 ^ a .t .b - 1) (a .samples .now))) (first-beyond (length (a .samples .now)) (atMost (2 ^ a .t .b - 1) (a .samples .now)) (rw (← e) (c .if5 .left))))
+    let n = length (a .samples .now) in
+    let test = atMost (2 ^ a .t .b - 1) (a .samples .now) in
+    rw (y .table, y .width, y .height, y .place, true-of (all n test) (first-beyond n test (rw (← e) (c .if5 .left))))
     refl
 
 pub asked-spec : {M : Type 1} → statement M

@@ -8,7 +8,7 @@ use mathlib.Core.List.{_∷_}
 use lib.ListN.{length-append}
 use Rattle.table.proofs.Fields.{fields-end, fields-full, fields-step}
 use Rattle.table.proofs.Structs.{contents-tableOf, placed, placed-is}
-use Rattle.table.specs.Format.{refused, plus, rectOf, fieldAsks, atEnd, handed, handedOut}
+use Rattle.table.specs.Format.{refused, plus, rectOf, fieldAsks, handed, handedOut}
 use Rattle.layout.specs.Contents.{noRects}
 use Rattle.layout.specs.declared.Verdict.the-variants.{Accepted, Refused}
 use Rattle.layout.specs.declared.Verdict.{Verdict}
@@ -22,8 +22,8 @@ use mathlib.Core.Path.{refl, sym, ap, ap₂, _∙_}
 use mathlib.Core.Bool.{cond}
 use native.Mathlib.Omega.{arith}
 use mathlib.Core.List.{List, []}
-use Rattle.table.specs.Format.{Outcome, headOf, fieldsOf}
-use Rattle.layout.specs.Contents.{Contents, contents, tableOf}
+use Rattle.table.specs.Format.{headOf, fieldsOf}
+use Rattle.layout.specs.Contents.{contents, tableOf}
 use lib.ListN.{length, drop}
 use mathlib.Core.Path.{_≡_}
 use Prim.Native.Nat.{ℕ, suc, _+_, _-_, _≤_, _<_}

@@ -1,10 +1,10 @@
 use Rattle.table.proofs.Sound.{refused-from, loaded-from, parse-sound}
 use Rattle.table.proofs.Structs.{contents-tableOf}
-use Rattle.table.specs.Format.{Outcome, refused, loaded, parseOf, fitOf, loadOf, handed, handedOut, tableFrom}
+use Rattle.table.specs.Format.{refused, loaded, parseOf, fitOf, loadOf, handed, handedOut, tableFrom}
 use Rattle.layout.specs.Answers.{said}
 use Rattle.limits.specs.Limits.{fitting, valueGood}
 use Rattle.layout.specs.Contents.{Contents, tableOf}
-use Rattle.layout.specs.declared.Verdict.the-variants.{Accepted, Refused}
+use Rattle.layout.specs.declared.Verdict.the-variants.{Accepted}
 use Rattle.layout.specs.declared.Verdict.{Verdict}
 use Rattle.layout.specs.declared.Table.{Table}
 use lib.ListN.{length}
@@ -12,8 +12,7 @@ use Prim.Native.Nat.{ℕ}
 use borrow.Author.Tests.{le-leb}
 use mathlib.Core.List.{List}
 use mathlib.Core.Bool.{Bool, true, false, cond}
-use mathlib.Core.Path.{_≡_, refl, sym, ap, ap₂, _∙_}
-use native.Mathlib.Omega.{arith}
+use mathlib.Core.Path.{_≡_, sym, ap, ap₂, _∙_}
 use borrow.Author.Needs.{needs}
 use Rattle.table.proofs.loading.load.Statement.{statement}
 use Rattle.table.proofs.loading.load.Tie as tie

@@ -2,7 +2,7 @@ use Rattle.table.proofs.Asked.{header-accepted}
 use Rattle.layout.specs.declared.Verdict.{Verdict}
 use Rattle.layout.specs.Answers.{said, verdict}
 use Rattle.layout.proofs.Questions.{onVerdict}
-use Rattle.table.specs.Format.{Outcome, refused, headOf, headerAsks, fieldsOf, parseOf, handed}
+use Rattle.table.specs.Format.{refused, headOf, headerAsks, fieldsOf, parseOf, handed}
 use Rattle.table.proofs.Fields.{parse-step}
 use lib.ListN.{drop}
 use Prim.Native.Nat.{ℕ}

@@ -1,15 +1,10 @@
 use Rattle.limits.proofs.Granted.{granted}
 use Rattle.layout.specs.Answers.{accepted}
 use Rattle.table.specs.Writing.{fileLength, wrote, writeOf}
-use Rattle.table.specs.Format.{encode}
-use Rattle.layout.specs.Contents.{contents}
-use denote.Ref.{now}
 use borrow.Author.Tests.{le-leb, lt-leb, not-true, not-false}
-use lib.ListN.{drop}
-use mathlib.Core.List.{[], _∷_, _++_}
+use mathlib.Core.List.{[], _∷_}
 use lib.IntN.{pos}
-use mathlib.Core.Path.{refl, sym, ap, _∙_}
-use Prim.Native.Nat.{_≤_}
+use mathlib.Core.Path.{sym, ap, _∙_}
 use native.Mathlib.Omega.{arith}
 use borrow.Author.Needs.{needs}
 use Rattle.table.proofs.writing.write.Statement.{statement}
