@@ -6,7 +6,7 @@ use native.Mathlib.Omega.{arith}
 use mathlib.Core.Path.{_≡_, refl, sym, ap, _∙_}
 use mathlib.Core.Logic.{⊎-elim, _≢_}
 use native.Mathlib.Decide.{ℕ-discrete}
-use mathlib.Core.List.{List, [], _∷_, _++_}
+use mathlib.Core.List.{List, [], _∷_, _++_, append-assoc, append-nil}
 use lib.ListN.{length, getD, set, length-append, length-set, List·getD-append}
 use lib.Seq.{ext-getD, getD-append-seam, getD-at, getD-set-same, getD-set-other}
 use Rattle.arith.specs.Tab.{tab}
@@ -61,3 +61,11 @@ module _ {ℓ} {A : Type ℓ} where
         | no n ↦ getD-set-other (tab m (λ k. getD l k d)) (length l) k a d n ∙ getD-tab m _ k d p
             ∙ sym (getD-tab m _ k d p ∙ getD-snoc l a d k n)
       ]
+
+  -- one list after the other
+  pub tab-append : (m n : ℕ) (f : ℕ → A) → tab (m + n) f ≡ tab m f ++ tab n (λ k. f (m + k))
+  unfolding tab
+  tab-append m zero f = rw (add-zero m) (sym (append-nil (tab m f)))
+  tab-append m (suc n) f =
+      let e : m + suc n ≡ suc (m + n) = omega arith in
+      ap (λ k. tab k f) e ∙ ap (λ l. l ++ (f (m + n) ∷ [])) (tab-append m n f) ∙ append-assoc (tab m f) (tab n (λ k. f (m + k))) (f (m + n) ∷ [])

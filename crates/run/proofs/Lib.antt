@@ -6,3 +6,6 @@ pub mod Rows
 pub mod Starts
 pub mod Alike
 pub mod Sequences
+pub mod Later
+pub mod Wholes
+pub mod Numbers
