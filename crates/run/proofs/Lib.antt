@@ -9,3 +9,4 @@ pub mod Sequences
 pub mod Later
 pub mod Wholes
 pub mod Numbers
+pub mod Packs

@@ -280,7 +280,7 @@ rows-case m samples sums f st rows out =
     record { said = refl; out = refl; taken = refl; filtered = refl; follows = together })))
 
 -- each call keeps the relation, and is answered alike
-kept : (w : World) (m : Machine) (c : Call) → Follows w m → Agree (engine w c) (answers m c)
+pub kept : (w : World) (m : Machine) (c : Call) → Follows w m → Agree (engine w c) (answers m c)
 unfolding engine answers
 kept w m (rowCall row out) r = row-kept w m row out r
 kept w m (rowsCall rows out) r = subst (λ s. Agree (burstOf (world s (w .samples) (w .sums)) rows out) (machineRows m rows out)) (sym (r .scan)) (rows-case m (w .samples) (w .sums) (r .fair) (r .stores) rows out)
