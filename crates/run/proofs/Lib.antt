@@ -10,3 +10,4 @@ pub mod Later
 pub mod Wholes
 pub mod Numbers
 pub mod Packs
+pub mod Around

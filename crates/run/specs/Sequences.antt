@@ -24,6 +24,13 @@ pub data Call : Type 0 where
   closeCall : Call
   stepCall : (out : List ℤ) → Call
 
+-- the output lent to a call
+unfoldable pub outOf : Call → List ℤ
+outOf (rowCall row out) = out
+outOf (rowsCall rows out) = out
+outOf closeCall = []
+outOf (stepCall out) = out
+
 -- the engine: what the contracts of the calls say
 unfoldable pub engine : World → Call → Left World
 engine w (rowCall row out) = rowOf w row out
