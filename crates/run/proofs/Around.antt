@@ -15,7 +15,7 @@ use Rattle.arith.proofs.Bools.{true-of}
 use Rattle.layout.specs.declared.Table.{Table}
 use Rattle.layout.specs.Contents.{Contents}
 use Rattle.layout.specs.Measure.{delayOf}
-use Rattle.layout.specs.Answers.{Said, refused, accepted, left}
+use Rattle.layout.specs.Answers.{Said, refused, accepted, Left, left}
 use Rattle.layout.specs.Sequences.{replies}
 use Rattle.layout.proofs.Questions.{each-way}
 use Rattle.limits.specs.Limits.{acceptable}
@@ -100,7 +100,7 @@ pub refused-start : (t : Table) (l : ℕ) (samples sums : List ℕ) (n p : ℕ) 
     → (c : Call) → Refuses14 (startOf t l samples sums .state) c
 unfolding startOf
 refused-start t l samples sums n p =
-    each-way (λ x. x .said ≡ refused n p → (c : Call) → Refuses14 (x .state) c) (startAsks t l (length samples) (length sums)) _ _
+    each-way (λ (x : Left World). x .said ≡ refused n p → (c : Call) → Refuses14 (x .state) c) (startAsks t l (length samples) (length sums)) _ _
     (λ i j e. disagreeing (world (fresh t 0) samples sums) (no-width t))
     (λ y e c. absurd (let z : _≡_ {A = ℕ} 1 0 = ap (λ s. s .kind) e in omega arith))
 
