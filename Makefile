@@ -1,19 +1,20 @@
-# make test      the gate: the examples, the outside tests, then every crate proved from nothing, every must-fail edit refused, every program run
+# make test      the gate: every crate proved from nothing, every must-fail edit refused, every program run, the examples, the outside tests
 # make run       filters the strip under scans/ and lists Table A; proves the programs first, which takes some minutes once
 # make lib       build/libstrip.a and build/strip.h, for C
 # make examples  the header compiled as C and C++, the C example run
 # make outside   the library, through its C interface, beside a filter written separately from the papers
 # make bench     the engine's speed beside C loops, and the program's beside the engine
 # make scan      makes the strip under scans/ again
+# make edits CRATE=name   tries one crate's must-fail edits: where each is refused, and whether that is at a fact
+# make tidy      names in docs/PROMISES.md that do not exist, definitions that nothing uses
 
-.PHONY: test run lib examples outside bench scan kit
+.PHONY: test run lib examples outside bench scan edits tidy kit
 
 kit:
 	@command -v rt >/dev/null 2>&1 || { echo "missing: rt, the command of the Rattle kit, is not on the PATH"; exit 2; }
 
-test: kit examples outside
-	@rt fmt --check
-	@rt ci
+test: kit
+	@scripts/gate.sh
 
 run: kit
 	@rt check listing stripfilter >target.log 2>&1 || { cat target.log; rm -f target.log; exit 1; }
@@ -57,3 +58,9 @@ bench: lib
 
 scan:
 	@python3 scans/make.py
+
+edits: kit
+	@python3 scripts/edits.py $(CRATE)
+
+tidy:
+	@python3 scripts/tidy.py

@@ -31,7 +31,7 @@ fn scaled_sum(t: Table, d: Rect, width: usize, samples: &[u16], r: usize, c: usi
 }
 
 // above - below, divided by 2^shift and rounded down.
-fn settled(above: u64, below: u64, shift: u8) -> i32
+fn round_pixel(above: u64, below: u64, shift: u8) -> i32
     requires { ⌜ (above < 4611686018427387904) × (below < 4611686018427387904) ⌝ }
     requires { ⌜ T (fitsSigned 32 (floorDiv (subℕ above below) shift)) ⌝ }
     ensures { λ p. ⌜ p ≡ floorDiv (subℕ above below) shift ⌝ }
@@ -57,5 +57,5 @@ pub fn value(t: Table, width: usize, samples: &[u16], r: usize, c: usize) -> i32
         below += p.below as u64 * s;
         k += 1;
     }
-    settled(above, below, t.t)
+    round_pixel(above, below, t.t)
 }

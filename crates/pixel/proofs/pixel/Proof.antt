@@ -1,3 +1,4 @@
+-- The questions, then the pixel of the rule on a scan whose samples have b bits.
 use Rattle.pixel.proofs.Accepts.{accepts}
 use Rattle.layout.specs.declared.Verdict.{Verdict}
 use Rattle.layout.specs.declared.Table.{Table}
@@ -17,10 +18,6 @@ use Prim.Native.Nat.{ℕ}
 use borrow.Author.Needs.{needs}
 use Rattle.pixel.proofs.pixel.Statement.{statement}
 use Rattle.pixel.proofs.pixel.Tie as tie
-use Rattle.pixel.proofs.pixel.Reads as reads
-use Rattle.pixel.proofs.pixel.Lts as lts
-use Rattle.pixel.proofs.ask.asked.Reads as asked-reads
-use Rattle.pixel.proofs.value.value.Reads as value-reads
 
 -- what the call says, by the verdict of its questions
 answer-is : (t : Table) (l : ℕ) (xs : List ℕ) (r c : ℕ) {v : Verdict} → verdict (pixelAsks t l xs r c) ≡ v
@@ -30,19 +27,15 @@ answer-is t l xs r c e =
     first-verdict (pixelAsks t l xs r c) refused (accepted (pixelOf t (sampleAt l xs) (pos r) (pos c) ∷ []))
     ∙ ap (λ v. onVerdict v refused (accepted (pixelOf t (sampleAt l xs) (pos r) (pos c) ∷ []))) e
 
--- src/lib.rt:24:9
 asked-requires : tie.Need-asked-requires
 asked-requires c κs = search needs
 
--- src/lib.rt:26:26
 enum-known-v : tie.Need-enum-known-v
 enum-known-v c = search needs
 
--- src/lib.rt:27:43
 enum-told : tie.Need-enum-told
 enum-told c = search needs
 
--- src/lib.rt:27:43
 value-requires : tie.Need-value-requires
 value-requires c κs = let a = c .before .before .before .before .args in
     let h = accepts (a .t) (a .width) (a .samples .now) (a .r) (a .c) (sym (c .before .before .asked .ensures) ∙ c .enum-told .given .1) in
@@ -51,11 +44,9 @@ value-requires c κs = let a = c .before .before .before .before .args in
     let p = place-bounds (a .width) (length (a .samples .now)) (a .r) (a .c) (h .place) in
     ((h .table, h .bits), (w, omega arith, omega arith))
 
--- src/lib.rt:21:1
 returns : tie.Need-returns
 returns c = sym (answer-is _ _ _ _ _ (sym (c .before .before .before .asked .ensures) ∙ c .before .v .given .1))
 
--- src/lib.rt:21:1
 returns-2 : tie.Need-returns-2
 returns-2 c =
     ap (λ p. accepted (p ∷ [])) (toZ-ofZ (record { sfits = c .value .ok }) ∙ c .value .ensures)

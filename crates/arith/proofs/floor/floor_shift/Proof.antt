@@ -14,8 +14,6 @@ use Rattle.arith.specs.Floor.{floorDiv}
 use Rattle.arith.proofs.Floors.{floor-far}
 use Rattle.arith.proofs.floor.floor_shift.Statement.{statement}
 use Rattle.arith.proofs.floor.floor_shift.Tie as tie
-use Rattle.arith.proofs.floor.floor_shift.Reads as reads
-use Rattle.arith.proofs.floor.floor_shift.Lts as lts
 
 -- the word's shift is the floor division
 shifted : (z : ℤ) (t : ℕ) → SFits w64 z → toZ w64 (ofZ w64 (shrZ (toZ w64 (ofZ w64 z)) (2 ^ t))) ≡ floorDiv z t

@@ -7,8 +7,6 @@ use Rattle.arith.specs.Log.{logs, log2up}
 use Rattle.arith.proofs.Logs.{log-rule, log-beyond}
 use Rattle.arith.proofs.log.log2_up.Statement.{statement}
 use Rattle.arith.proofs.log.log2_up.Tie as tie
-use Rattle.arith.proofs.log.log2_up.Reads as reads
-use Rattle.arith.proofs.log.log2_up.Lts as lts
 
 returns : tie.Need-returns
 unfolding log2up logs

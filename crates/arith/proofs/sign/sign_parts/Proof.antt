@@ -1,3 +1,4 @@
+-- A signed number as its positive and its negative part, of which one is 0.
 use native.Mathlib.Omega.{arith}
 use mir.Facts.{toZ-ofZ}
 use mathlib.Core.Path.{sym, _∙_}
@@ -5,24 +6,16 @@ use Rattle.arith.proofs.Ints.{diff-posPart, diff-negPart}
 use borrow.Author.Needs.{needs}
 use Rattle.arith.proofs.sign.sign_parts.Statement.{statement}
 use Rattle.arith.proofs.sign.sign_parts.Tie as tie
-use Rattle.arith.proofs.sign.sign_parts.Reads as reads
-use Rattle.arith.proofs.sign.sign_parts.Lts as lts
-use Rattle.arith.proofs.natural.monus.Reads as monus-reads
-use Rattle.arith.proofs.sign.biased_word.Reads as biased-word-reads
 
--- src/sign.rt:36:9
 biased-word-requires : tie.Need-biased-word-requires
 biased-word-requires c κs = search needs
 
--- src/sign.rt:38:16
 monus-requires : tie.Need-monus-requires
 monus-requires c κs = search needs
 
--- src/sign.rt:39:16
 monus-requires-2 : tie.Need-monus-requires-2
 monus-requires-2 c κs = search needs
 
--- src/sign.rt:32:1
 returns : tie.Need-returns
 returns c = let b = c .before .before .biased-word .ensures in
     let d = rw (toZ-ofZ (c .before .before .before .fits .z)) at (b .0) in

@@ -1,3 +1,4 @@
+-- A byte from 128 on stands for itself less 256.
 use Rattle.arith.proofs.Bias.{signed-as-is, lowered-fits, narrow-fits, signed-lowered}
 use Prim.Native.Nat.{_+_, _*_}
 use native.Mathlib.Omega.{arith}
@@ -5,30 +6,22 @@ use mir.Syntax.{w8}
 use borrow.Author.Needs.{needs}
 use Rattle.arith.proofs.sign.signed_byte.Statement.{statement}
 use Rattle.arith.proofs.sign.signed_byte.Tie as tie
-use Rattle.arith.proofs.sign.signed_byte.Reads as reads
-use Rattle.arith.proofs.sign.signed_byte.Lts as lts
 
--- src/sign.rt:43:9
 cast-result : tie.Need-cast-result
 cast-result c = search needs
 
--- src/sign.rt:45:11
 cast-result-2 : tie.Need-cast-result-2
 cast-result-2 c = search needs
 
--- src/sign.rt:45:10
 sub-result : tie.Need-sub-result
 sub-result c = lowered-fits w8 (c .before .args .x) (omega arith) (omega arith) tt
 
--- src/sign.rt:45:9
 cast-result-3 : tie.Need-cast-result-3
 cast-result-3 c = narrow-fits w8 (c .before .args .x) (omega arith) (omega arith) tt
 
--- src/sign.rt:39:1
 returns : tie.Need-returns
 returns c = signed-as-is w8 (c .before .args .x) (omega arith)
 
--- src/sign.rt:39:1
 returns-2 : tie.Need-returns-2
 returns-2 c = signed-lowered w8 (c .before .args .x) (omega arith) (omega arith) tt
 

@@ -1,32 +1,25 @@
+-- A row that is not refused counts as taken, and one with a number as come out.
 use native.Mathlib.Nat.{add-zero}
 use mathlib.Core.Path.{refl, sym}
 use borrow.Author.Needs.{needs}
 use Rattle.burst.proofs.handing.count.Statement.{statement}
 use Rattle.burst.proofs.handing.count.Tie as tie
-use Rattle.burst.proofs.handing.count.Reads as reads
-use Rattle.burst.proofs.handing.count.Lts as lts
 
--- src/handing.rt:55:22
 enum-told : tie.Need-enum-told
 enum-told c = search needs
 
--- src/handing.rt:56:20
 add-t9 : tie.Need-add-t9
 add-t9 c = search needs
 
--- src/handing.rt:57:23
 add-t10 : tie.Need-add-t10
 add-t10 c = search needs
 
--- src/handing.rt:61:22
 enum-told-2 : tie.Need-enum-told-2
 enum-told-2 c = search needs
 
--- src/handing.rt:62:20
 add-t12 : tie.Need-add-t12
 add-t12 c = search needs
 
--- src/handing.rt:66:25
 enum-known-answer : tie.Need-enum-known-answer
 enum-known-answer c = search needs
 

@@ -1,3 +1,4 @@
+-- The questions before the first row, then the rows one by one.
 use Rattle.layout.specs.declared.Verdict.the-variants.{Accepted}
 use Rattle.layout.specs.Answers.{Said, said, verdict, left}
 use Rattle.layout.proofs.Questions.{first-verdict}
@@ -13,11 +14,6 @@ use mathlib.Core.Path.{_≡_, refl, sym, ap, _∙_}
 use borrow.Author.Needs.{needs}
 use Rattle.burst.proofs.handing.rows.Statement.{statement}
 use Rattle.burst.proofs.handing.rows.Tie as tie
-use Rattle.burst.proofs.handing.rows.Reads as reads
-use Rattle.burst.proofs.handing.rows.Lts as lts
-use Rattle.burst.proofs.handing.asked.Reads as asked-reads
-use Rattle.burst.proofs.handing.begun.Reads as begun-reads
-use Rattle.burst.proofs.handing.each.Reads as each-reads
 
 -- the questions are answered yes
 abbrev start : tie.After-enum-told2 → tie.Start
@@ -35,33 +31,26 @@ same-left : {v v′ : Said} {taken taken′ filtered filtered′ : ℕ} {s s′ 
     → left (withCounts v taken filtered) (world s samples sums) out ≡ left (withCounts v′ taken′ filtered′) (world s′ samples sums) out
 same-left e f g h = rw (e, f, g, h) refl
 
--- src/handing.rt:118:9
 asked-requires : tie.Need-asked-requires
 asked-requires c κs = search needs
 
--- src/handing.rt:120:35
 enum-told : tie.Need-enum-told
 enum-told c = search needs
 
--- src/handing.rt:120:35
 begun-requires : tie.Need-begun-requires
 begun-requires c κs = search needs
 
--- src/handing.rt:122:21
 enum-told-2 : tie.Need-enum-told-2
 enum-told-2 c = search needs
 
--- src/handing.rt:122:21
 div-n : tie.Need-div-n
 div-n c = enters (c .before) .width-least
 
--- src/handing.rt:123:13
 each-requires : tie.Need-each-requires
 each-requires c κs = let m = c .before .before .before .before in
     let h = enters m in
     (rows-in (start m .args .s) (length (start m .args .rows .now)), rows-out _ _ _ h, h .rows-most, h .width-most)
 
--- src/handing.rt:112:1
 returns : tie.Need-returns
 unfolding burstOf
 returns c = let v = c .before .enum-told .given .1 in
@@ -70,19 +59,15 @@ returns c = let v = c .before .enum-told .given .1 in
     rw (first-verdict (burstAsks (a .s) (length (a .rows .now)) (length (a .out .now))), sym (c .before .before .before .asked .ensures) ∙ v)
     (same-left (ap said (e .0 ∙ v)) (e .1) (e .2) (e .3))
 
--- src/handing.rt:112:1
 same-length : tie.Need-same-length
 same-length c = search needs
 
--- src/handing.rt:112:1
 same-length-2 : tie.Need-same-length-2
 same-length-2 c = search needs
 
--- src/handing.rt:112:1
 same-length-3 : tie.Need-same-length-3
 same-length-3 c = search needs
 
--- src/handing.rt:112:1
 returns-2 : tie.Need-returns-2
 unfolding burstOf
 returns-2 c = let m = c .before .before .before .before .before in

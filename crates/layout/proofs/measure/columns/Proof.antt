@@ -1,3 +1,4 @@
+-- N is the extent of the column edges.
 use mir.Val.{SFits}
 use mir.Syntax.{w8}
 use mir.Facts.{toZ-ofZ}
@@ -5,15 +6,10 @@ use Rattle.layout.specs.Measure.{colsOf}
 use borrow.Author.Needs.{needs}
 use Rattle.layout.proofs.measure.columns.Statement.{statement}
 use Rattle.layout.proofs.measure.columns.Tie as tie
-use Rattle.layout.proofs.measure.columns.Reads as reads
-use Rattle.layout.proofs.measure.columns.Lts as lts
-use Rattle.layout.proofs.measure.extent.Reads as extent-reads
 
--- src/measure.rt:24:5
 extent-requires : tie.Need-extent-requires
 extent-requires c κs = search needs
 
--- src/measure.rt:20:1
 returns : tie.Need-returns
 unfolding colsOf
 returns c = let a = c .before .before .before .args in

@@ -1,3 +1,4 @@
+-- The largest lead row so far is carried over the rectangles; the invariant is `largest` of those passed.
 use Rattle.layout.specs.Contents.{noRect}
 use mathlib.Core.Path.{ap, _∙_, sym}
 use lib.ListN.{length, length-map, List·getD-eq-default}
@@ -18,10 +19,6 @@ use Prim.Native.Nat.{ℕ, _-_, _≤_, _<_, min}
 use borrow.Author.Needs.{needs}
 use Rattle.layout.proofs.measure.delay.Statement.{statement}
 use Rattle.layout.proofs.measure.delay.Tie as tie
-use Rattle.layout.proofs.measure.delay.Reads as reads
-use Rattle.layout.proofs.measure.delay.Lts as lts
-use Rattle.layout.proofs.measure.larger.Reads as larger-reads
-use Rattle.arith.proofs.least.Reads as least-reads
 
 abbrev lead : Table → ℕ → ℕ
 lead t k = posPart (rect t k .leadrow)
@@ -32,36 +29,28 @@ Inv-loop t n d₀ k₀ d k = (k ≤ n) × (d ≡ largest k (lead t))
 abbrev μ-loop : tie.MeasureT-loop
 μ-loop t n d₀ k₀ d k = n - k
 
--- src/measure.rt:73:9
 least-requires : tie.Need-least-requires Inv-loop μ-loop
 least-requires c κs = search needs
 
--- src/measure.rt:76:5
 loop-holds : tie.Need-loop-holds Inv-loop μ-loop
 unfolding largest
 loop-holds c = (search needs, refl)
 
--- src/measure.rt:77:17
 mul-r : tie.Need-mul-r Inv-loop μ-loop
 mul-r c = search needs
 
--- src/measure.rt:77:17
 element-copy-out-r : tie.Need-element-copy-out-r Inv-loop μ-loop
 element-copy-out-r c = search needs
 
--- src/measure.rt:78:9
 larger-requires : tie.Need-larger-requires Inv-loop μ-loop
 larger-requires c κs = search needs
 
--- src/measure.rt:79:9
 add-k : tie.Need-add-k Inv-loop μ-loop
 add-k c = search needs
 
--- src/measure.rt:76:5
 loop-less : tie.Need-loop-less Inv-loop μ-loop
 loop-less c = search needs
 
--- src/measure.rt:76:5
 loop-again : tie.Need-loop-again Inv-loop μ-loop
 loop-again c = let s = c .before .before .before .before in
     let t = s .before .before .args .t1 in
@@ -70,7 +59,6 @@ loop-again c = let s = c .before .before .before .before in
     let i = s .loop .inv .1 in
     (omega arith, rw (add-one, largest-suc) (omega arith))
 
--- src/measure.rt:70:1
 returns : tie.Need-returns Inv-loop μ-loop
 unfolding delayOf
 returns c = let t = c .before .before .before .args .t1 in

@@ -1,27 +1,20 @@
+-- The difference of the two edges raised by 128 is that of the edges.
 use mir.Facts.{toZ-ofZ}
 use Rattle.arith.proofs.Ints.{diff-posPart, diff-minus}
 use native.Mathlib.Omega.{arith}
 use borrow.Author.Needs.{needs}
 use Rattle.layout.proofs.measure.extent.Statement.{statement}
 use Rattle.layout.proofs.measure.extent.Tie as tie
-use Rattle.layout.proofs.measure.extent.Reads as reads
-use Rattle.layout.proofs.measure.extent.Lts as lts
-use Rattle.arith.proofs.monus.Reads as monus-reads
-use Rattle.arith.proofs.biased_byte.Reads as biased-byte-reads
 
--- src/measure.rt:32:11
 biased-byte-requires : tie.Need-biased-byte-requires
 biased-byte-requires c κs = search needs
 
--- src/measure.rt:32:30
 biased-byte-requires-2 : tie.Need-biased-byte-requires-2
 biased-byte-requires-2 c κs = search needs
 
--- src/measure.rt:32:5
 monus-requires : tie.Need-monus-requires
 monus-requires c κs = search needs
 
--- src/measure.rt:28:1
 returns : tie.Need-returns
 returns c =
     let s = c .before .before .before in

@@ -1,23 +1,17 @@
+-- The larger of two numbers, the lead row counting as 0 where it is negative.
 use mir.Facts.{toZ-ofZ}
 use Rattle.arith.proofs.Ints.{diff-posPart}
 use native.Mathlib.Omega.{arith}
 use borrow.Author.Needs.{needs}
 use Rattle.layout.proofs.measure.larger.Statement.{statement}
 use Rattle.layout.proofs.measure.larger.Tie as tie
-use Rattle.layout.proofs.measure.larger.Reads as reads
-use Rattle.layout.proofs.measure.larger.Lts as lts
-use Rattle.arith.proofs.monus.Reads as monus-reads
-use Rattle.arith.proofs.biased_byte.Reads as biased-byte-reads
 
--- src/measure.rt:90:19
 biased-byte-requires : tie.Need-biased-byte-requires
 biased-byte-requires c κs = search needs
 
--- src/measure.rt:90:9
 monus-requires : tie.Need-monus-requires
 monus-requires c κs = search needs
 
--- src/measure.rt:87:1
 returns : tie.Need-returns
 returns c =
     let l = rw (toZ-ofZ (c .before .before .before .fits .lead)) at (c .before .before .biased-byte .ensures .0) in
@@ -25,7 +19,6 @@ returns c =
     let m = c .before .monus .ensures in
     omega arith
 
--- src/measure.rt:87:1
 returns-2 : tie.Need-returns-2
 returns-2 c =
     let l = rw (toZ-ofZ (c .before .before .before .fits .lead)) at (c .before .before .biased-byte .ensures .0) in

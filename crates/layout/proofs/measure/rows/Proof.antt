@@ -1,3 +1,4 @@
+-- M is the extent of the row edges.
 use mir.Val.{SFits}
 use mir.Syntax.{w8}
 use mir.Facts.{toZ-ofZ}
@@ -5,15 +6,10 @@ use Rattle.layout.specs.Measure.{rowsOf}
 use borrow.Author.Needs.{needs}
 use Rattle.layout.proofs.measure.rows.Statement.{statement}
 use Rattle.layout.proofs.measure.rows.Tie as tie
-use Rattle.layout.proofs.measure.rows.Reads as reads
-use Rattle.layout.proofs.measure.rows.Lts as lts
-use Rattle.layout.proofs.measure.extent.Reads as extent-reads
 
--- src/measure.rt:16:5
 extent-requires : tie.Need-extent-requires
 extent-requires c κs = search needs
 
--- src/measure.rt:12:1
 returns : tie.Need-returns
 unfolding rowsOf
 returns c = let a = c .before .before .before .args in

@@ -1,3 +1,4 @@
+-- Formula (7): b and the logarithm of M·N, less both drops, 0 where that is negative.
 use Rattle.layout.specs.Measure.{windowWord}
 use Rattle.arith.specs.Log.{log2up}
 use mathlib.Core.Path.{ap, ap₂, _∙_}
@@ -7,66 +8,47 @@ use native.Mathlib.Omega.{arith}
 use borrow.Author.Needs.{needs}
 use Rattle.layout.proofs.measure.window_word.Statement.{statement}
 use Rattle.layout.proofs.measure.window_word.Tie as tie
-use Rattle.layout.proofs.measure.window_word.Reads as reads
-use Rattle.layout.proofs.measure.window_word.Lts as lts
-use Rattle.arith.proofs.log2_up.Reads as log2-up-reads
-use Rattle.layout.proofs.measure.columns.Reads as columns-reads
-use Rattle.arith.proofs.monus.Reads as monus-reads
-use Rattle.layout.proofs.measure.rows.Reads as rows-reads
 
--- src/measure.rt:47:9
 rows-requires : tie.Need-rows-requires
 rows-requires c κs = search needs
 
--- src/measure.rt:48:9
 columns-requires : tie.Need-columns-requires
 columns-requires c κs = search needs
 
--- src/measure.rt:49:31
 mul-log2-up : tie.Need-mul-log2-up
 mul-log2-up c =
     let h = mul-le-mul (c .before .rows .ensures .1) (c .columns .ensures .1) in
     omega arith
 
--- src/measure.rt:49:30
 cast-log2-up : tie.Need-cast-log2-up
 cast-log2-up c =
     let h = mul-le-mul (c .before .rows .ensures .1) (c .columns .ensures .1) in
     omega arith
 
--- src/measure.rt:49:9
 log2-up-requires : tie.Need-log2-up-requires
 log2-up-requires c κs = search needs
 
--- src/measure.rt:50:11
 cast-monus : tie.Need-cast-monus
 cast-monus c = search needs
 
--- src/measure.rt:50:24
 cast-monus-2 : tie.Need-cast-monus-2
 cast-monus-2 c = search needs
 
--- src/measure.rt:50:11
 add-monus : tie.Need-add-monus
 add-monus c = search needs
 
--- src/measure.rt:50:36
 cast-monus-3 : tie.Need-cast-monus-3
 cast-monus-3 c = search needs
 
--- src/measure.rt:50:50
 cast-monus-4 : tie.Need-cast-monus-4
 cast-monus-4 c = search needs
 
--- src/measure.rt:50:36
 add-monus-2 : tie.Need-add-monus-2
 add-monus-2 c = search needs
 
--- src/measure.rt:50:5
 monus-requires : tie.Need-monus-requires
 monus-requires c κs = search needs
 
--- src/measure.rt:44:1
 returns : tie.Need-returns
 unfolding windowWord
 returns c =

@@ -1,3 +1,4 @@
+-- Question 8 is asked of one rectangle after the other; the invariant is that all before were answered yes.
 use native.Mathlib.Numerals.{add-one}
 use native.Mathlib.Omega.{arith}
 use Rattle.limits.specs.Limits.{rectGood}
@@ -13,9 +14,6 @@ use Prim.Native.Nat.{_-_, _≤_}
 use borrow.Author.Needs.{needs}
 use Rattle.limits.proofs.accept.rects_good.Statement.{statement}
 use Rattle.limits.proofs.accept.rects_good.Tie as tie
-use Rattle.limits.proofs.accept.rects_good.Reads as reads
-use Rattle.limits.proofs.accept.rects_good.Lts as lts
-use Rattle.limits.proofs.rects.rect_good.Reads as rect-good-reads
 
 abbrev Inv-loop : tie.InvT-loop
 Inv-loop t n k₀ k = (k ≤ n) × (all k (slotGood t) ≡ true)
@@ -23,24 +21,19 @@ Inv-loop t n k₀ k = (k ≤ n) × (all k (slotGood t) ≡ true)
 abbrev μ-loop : tie.MeasureT-loop
 μ-loop t n k₀ k = n - k
 
--- src/accept.rt:41:5
 loop-holds : tie.Need-loop-holds Inv-loop μ-loop
 unfolding all
 loop-holds c = (search needs, refl)
 
--- src/accept.rt:42:17
 mul-r : tie.Need-mul-r Inv-loop μ-loop
 mul-r c = search needs
 
--- src/accept.rt:42:17
 element-copy-out-r : tie.Need-element-copy-out-r Inv-loop μ-loop
 element-copy-out-r c = search needs
 
--- src/accept.rt:43:13
 rect-good-requires : tie.Need-rect-good-requires Inv-loop μ-loop
 rect-good-requires c κs = search needs
 
--- src/accept.rt:44:13
 returns : tie.Need-returns Inv-loop μ-loop
 returns c = let s = c .before .before .before .before in
     let t = s .before .args .t1 in
@@ -48,15 +41,12 @@ returns c = let s = c .before .before .before .before in
     let e : rectGood (rect t k) ≡ false = sym (c .before .rect-good .ensures .0) ∙ not-true _ (c .if1 .taken) in
     sym (all-fails (t .count) (slotGood t) k (search needs) (rw e))
 
--- src/accept.rt:46:9
 add-k : tie.Need-add-k Inv-loop μ-loop
 add-k c = search needs
 
--- src/accept.rt:41:5
 loop-less : tie.Need-loop-less Inv-loop μ-loop
 loop-less c = search needs
 
--- src/accept.rt:41:5
 loop-again : tie.Need-loop-again Inv-loop μ-loop
 loop-again c = let s = c .before .before .before .before in
     let t = s .before .args .t1 in
@@ -64,7 +54,6 @@ loop-again c = let s = c .before .before .before .before in
     let e : rectGood (rect t k) ≡ true = sym (c .before .rect-good .ensures .0) ∙ not-false _ (c .if1 .left) in
     (omega arith, rw (add-one, all-suc, s .loop .inv .1, e) (c .before .rect-good .ensures .1))
 
--- src/accept.rt:35:1
 returns-2 : tie.Need-returns-2 Inv-loop μ-loop
 returns-2 c = let i = c .before .loop .inv in
     sym (ap (λ n. all n (slotGood (c .before .before .args .t1))) (omega arith) ∙ i .1)

@@ -1,11 +1,10 @@
+-- The three terms of the loss figure, each within its bound, so that no product or sum overflows.
 use native.Mathlib.Nat.{mul-le-mul}
 use native.Mathlib.Omega.{arith}
 use Prim.Native.Nat.{ℕ, _-_, _*_, _≤_}
 use borrow.Author.Needs.{needs}
 use Rattle.limits.proofs.figure.dropped.Statement.{statement}
 use Rattle.limits.proofs.figure.dropped.Tie as tie
-use Rattle.limits.proofs.figure.dropped.Reads as reads
-use Rattle.limits.proofs.figure.dropped.Lts as lts
 
 -- the three terms, and what bounds them
 record Small (a n p1 p2 p3 : ℕ) : Type 0 where
@@ -26,47 +25,36 @@ small c =
     let y = mul-le-mul (h .1) (h .3) in
     record { first = mul-le-mul (g .0) b; second-half = x; second = mul-le-mul x d; third-half = y; third = mul-le-mul y e }
 
--- src/measure.rt:89:13
 sub-result : tie.Need-sub-result
 sub-result c = search needs
 
--- src/measure.rt:89:5
 mul-result : tie.Need-mul-result
 mul-result c = let s = small c in omega arith
 
--- src/measure.rt:89:23
 mul-result-2 : tie.Need-mul-result-2
 mul-result-2 c = let s = small c in omega arith
 
--- src/measure.rt:89:33
 sub-result-2 : tie.Need-sub-result-2
 sub-result-2 c = search needs
 
--- src/measure.rt:89:23
 mul-result-3 : tie.Need-mul-result-3
 mul-result-3 c = let s = small c in omega arith
 
--- src/measure.rt:89:5
 add-result : tie.Need-add-result
 add-result c = let s = small c in omega arith
 
--- src/measure.rt:89:43
 mul-result-4 : tie.Need-mul-result-4
 mul-result-4 c = let s = small c in omega arith
 
--- src/measure.rt:89:54
 sub-result-3 : tie.Need-sub-result-3
 sub-result-3 c = search needs
 
--- src/measure.rt:89:43
 mul-result-5 : tie.Need-mul-result-5
 mul-result-5 c = let s = small c in omega arith
 
--- src/measure.rt:89:5
 add-result-2 : tie.Need-add-result-2
 add-result-2 c = let s = small c in omega arith
 
--- src/measure.rt:84:1
 returns : tie.Need-returns
 returns c = search needs
 

@@ -1,3 +1,4 @@
+-- Questions 3 and 4 bound the drops, so that the powers are what `dropped` takes; its sum is the loss figure.
 use Rattle.layout.specs.Answers.{accepted}
 use mathlib.Core.List.{[], _∷_}
 use lib.IntN.{pos}
@@ -13,70 +14,49 @@ use native.Mathlib.Omega.{arith}
 use borrow.Author.Needs.{needs}
 use Rattle.limits.proofs.figure.loss.Statement.{statement}
 use Rattle.limits.proofs.figure.loss.Tie as tie
-use Rattle.limits.proofs.figure.loss.Reads as reads
-use Rattle.limits.proofs.figure.loss.Lts as lts
-use Rattle.arith.proofs.power.Reads as power-reads
-use Rattle.limits.proofs.header.bits_good.Reads as bits-good-reads
-use Rattle.limits.proofs.header.drops_good.Reads as drops-good-reads
-use Rattle.layout.proofs.columns.Reads as columns-reads
-use Rattle.limits.proofs.figure.dropped.Reads as dropped-reads
-use Rattle.layout.proofs.rows.Reads as rows-reads
 
 -- a power of two that is at most 2^m
 power-bounds : {q p : ℕ} (m : ℕ) → q ≤ m → p ≡ 2 ^ q → (1 ≤ p) × (p ≤ 2 ^ m)
 power-bounds {q} m h e = (subst (λ x. 1 ≤ x) (sym e) (pow-pos q), subst (λ x. x ≤ 2 ^ m) (sym e) (pow-mono h))
 
--- src/measure.rt:72:9
 bits-good-requires : tie.Need-bits-good-requires
 bits-good-requires c κs = search needs
 
--- src/measure.rt:73:9
 returns : tie.Need-returns
 unfolding lossOf
 returns c = rw (sym (c .before .bits-good .ensures) ∙ not-true _ (c .if1 .taken))
 
--- src/measure.rt:75:9
 drops-good-requires : tie.Need-drops-good-requires
 drops-good-requires c κs = search needs
 
--- src/measure.rt:76:9
 returns-2 : tie.Need-returns-2
 unfolding lossOf
 returns-2 c = rw (sym (c .before .before .before .bits-good .ensures) ∙ not-false _ (c .before .before .if1 .left), sym (c .before .drops-good .ensures) ∙ not-true _ (c .if2 .taken))
 
--- src/measure.rt:78:13
 columns-requires : tie.Need-columns-requires
 columns-requires c κs = search needs
 
--- src/measure.rt:78:13
 cast-n : tie.Need-cast-n
 cast-n c = search needs
 
--- src/measure.rt:79:16
 rows-requires : tie.Need-rows-requires
 rows-requires c κs = search needs
 
--- src/measure.rt:79:16
 cast-area : tie.Need-cast-area
 cast-area c = search needs
 
--- src/measure.rt:79:16
 mul-area : tie.Need-mul-area
 mul-area c = let h = mul-le-mul (c .rows .ensures .1) (c .before .columns .ensures .1) in omega arith
 
--- src/measure.rt:80:35
 power-requires : tie.Need-power-requires
 power-requires c κs = search needs
 
--- src/measure.rt:80:55
 power-requires-2 : tie.Need-power-requires-2
 power-requires-2 c κs = search needs
 
--- src/measure.rt:80:75
 power-requires-3 : tie.Need-power-requires-3
 power-requires-3 c κs = search needs
 
--- src/measure.rt:80:18
 dropped-requires : tie.Need-dropped-requires
 dropped-requires c κs =
     let s = c .before .before .before .before .before in
@@ -88,7 +68,6 @@ dropped-requires c κs =
     let n = c .before .before .before .before .columns .ensures .1 in
     ((mul-le-mul (c .before .before .before .rows .ensures .1) n, n), (x .0, x .1, y .0, y .1, z .0, z .1))
 
--- src/measure.rt:69:1
 returns-3 : tie.Need-returns-3
 unfolding lossOf lossFigure
 returns-3 c =

@@ -1,38 +1,28 @@
+-- Questions 3 to 5 in order: each return is the first no, or that there is none.
 use Rattle.limits.specs.Limits.{headAsks}
 use mathlib.Core.Path.{sym, _∙_}
 use borrow.Author.Tests.{not-true, not-false}
 use borrow.Author.Needs.{needs}
 use Rattle.limits.proofs.header.head.Statement.{statement}
 use Rattle.limits.proofs.header.head.Tie as tie
-use Rattle.limits.proofs.header.head.Reads as reads
-use Rattle.limits.proofs.header.head.Lts as lts
-use Rattle.limits.proofs.header.bits_good.Reads as bits-good-reads
-use Rattle.limits.proofs.header.drops_good.Reads as drops-good-reads
-use Rattle.limits.proofs.header.word_good.Reads as word-good-reads
 
--- src/limits.rt:51:9
 bits-good-requires : tie.Need-bits-good-requires
 bits-good-requires c κs = search needs
 
--- src/limits.rt:52:9
 returns : tie.Need-returns
 unfolding headAsks
 returns c = rw (sym (c .before .bits-good .ensures) ∙ not-true _ (c .if1 .taken))
 
--- src/limits.rt:54:9
 drops-good-requires : tie.Need-drops-good-requires
 drops-good-requires c κs = search needs
 
--- src/limits.rt:55:9
 returns-2 : tie.Need-returns-2
 unfolding headAsks
 returns-2 c = rw (sym (c .before .before .before .bits-good .ensures) ∙ not-false _ (c .before .before .if1 .left), sym (c .before .drops-good .ensures) ∙ not-true _ (c .if2 .taken))
 
--- src/limits.rt:57:9
 word-good-requires : tie.Need-word-good-requires
 word-good-requires c κs = search needs
 
--- src/limits.rt:58:9
 returns-3 : tie.Need-returns-3
 unfolding headAsks
 returns-3 c =
@@ -42,7 +32,6 @@ returns-3 c =
       sym (c .before .word-good .ensures) ∙ not-true _ (c .if3 .taken),
     )
 
--- src/limits.rt:48:1
 returns-4 : tie.Need-returns-4
 unfolding headAsks
 returns-4 c =

@@ -1,22 +1,18 @@
+-- The bounds of question 5.
 use Rattle.limits.specs.Limits.{wordGood}
 use borrow.Author.Tests.{le-leb, lt-leb, lt-ltb, le-ltb}
 use borrow.Author.Needs.{needs}
 use Rattle.limits.proofs.header.word_good.Statement.{statement}
 use Rattle.limits.proofs.header.word_good.Tie as tie
-use Rattle.limits.proofs.header.word_good.Reads as reads
-use Rattle.limits.proofs.header.word_good.Lts as lts
 
--- src/limits.rt:42:9
 returns : tie.Need-returns
 unfolding wordGood
 returns c = rw (lt-leb _ _ (c .if1 .taken))
 
--- src/limits.rt:38:1
 returns-2 : tie.Need-returns-2
 unfolding wordGood
 returns-2 c = rw (le-leb _ _ (c .before .if1 .left), le-leb _ _ (c .if2 .taken))
 
--- src/limits.rt:38:1
 returns-3 : tie.Need-returns-3
 unfolding wordGood
 returns-3 c = rw (le-leb _ _ (c .before .if1 .left), lt-leb _ _ (c .if2 .left))

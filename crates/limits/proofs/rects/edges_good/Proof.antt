@@ -1,50 +1,41 @@
+-- The bounds of question 8 on edges raised by 128.
 use Rattle.limits.proofs.Edges.{edges-biased}
 use borrow.Author.Tests.{le-leb, lt-leb}
 use mir.Facts.{toZ-ofZ}
 use borrow.Author.Needs.{needs}
 use Rattle.limits.proofs.rects.edges_good.Statement.{statement}
 use Rattle.limits.proofs.rects.edges_good.Tie as tie
-use Rattle.limits.proofs.rects.edges_good.Reads as reads
-use Rattle.limits.proofs.rects.edges_good.Lts as lts
-use Rattle.arith.proofs.biased_byte.Reads as biased-byte-reads
 
--- src/limits.rt:65:9
 biased-byte-requires : tie.Need-biased-byte-requires
 biased-byte-requires c κs = search needs
 
--- src/limits.rt:66:9
 biased-byte-requires-2 : tie.Need-biased-byte-requires-2
 biased-byte-requires-2 c κs = search needs
 
--- src/limits.rt:68:9
 returns : tie.Need-returns
 returns c = let s = c .before in
     let l = rw (toZ-ofZ (s .before .before .fits .lead)) at (s .before .biased-byte .ensures .0) in
     let t = rw (toZ-ofZ (s .before .before .fits .trail)) at (s .biased-byte2 .ensures .0) in
     rw (edges-biased l t, lt-leb _ _ (c .if1 .taken))
 
--- src/limits.rt:71:9
 returns-2 : tie.Need-returns-2
 returns-2 c = let s = c .before .before in
     let l = rw (toZ-ofZ (s .before .before .fits .lead)) at (s .before .biased-byte .ensures .0) in
     let t = rw (toZ-ofZ (s .before .before .fits .trail)) at (s .biased-byte2 .ensures .0) in
     rw (edges-biased l t, le-leb _ _ (c .before .if1 .left), lt-leb _ _ (c .if2 .taken))
 
--- src/limits.rt:74:9
 returns-3 : tie.Need-returns-3
 returns-3 c = let s = c .before .before .before in
     let l = rw (toZ-ofZ (s .before .before .fits .lead)) at (s .before .biased-byte .ensures .0) in
     let t = rw (toZ-ofZ (s .before .before .fits .trail)) at (s .biased-byte2 .ensures .0) in
     rw (edges-biased l t, le-leb _ _ (c .before .before .if1 .left), le-leb _ _ (c .before .if2 .left), lt-leb _ _ (c .if3 .taken))
 
--- src/limits.rt:77:9
 returns-4 : tie.Need-returns-4
 returns-4 c = let s = c .before .before .before .before in
     let l = rw (toZ-ofZ (s .before .before .fits .lead)) at (s .before .biased-byte .ensures .0) in
     let t = rw (toZ-ofZ (s .before .before .fits .trail)) at (s .biased-byte2 .ensures .0) in
     rw (edges-biased l t, le-leb _ _ (c .before .before .before .if1 .left), le-leb _ _ (c .before .before .if2 .left), le-leb _ _ (c .before .if3 .left), lt-leb _ _ (c .if4 .taken))
 
--- src/limits.rt:62:1
 returns-5 : tie.Need-returns-5
 returns-5 c = let s = c .before .before .before .before in
     let l = rw (toZ-ofZ (s .before .before .fits .lead)) at (s .before .biased-byte .ensures .0) in

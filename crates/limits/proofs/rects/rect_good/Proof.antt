@@ -1,3 +1,4 @@
+-- Question 8 on both axes.
 use Rattle.limits.specs.Limits.{rectGood}
 use mathlib.Core.Path.{_≡_, sym, _∙_}
 use mir.Val.{SFits}
@@ -11,22 +12,16 @@ use mir.Facts.{toZ-ofZ}
 use borrow.Author.Needs.{needs}
 use Rattle.limits.proofs.rects.rect_good.Statement.{statement}
 use Rattle.limits.proofs.rects.rect_good.Tie as tie
-use Rattle.limits.proofs.rects.rect_good.Reads as reads
-use Rattle.limits.proofs.rects.rect_good.Lts as lts
-use Rattle.limits.proofs.rects.edges_good.Reads as edges-good-reads
 
 weight-fits : (z : ℤ) → SFits w16 z → fitsSigned 16 z ≡ true
 weight-fits z f = true-of (fitsSigned 16 z) (mag-fits 16 z (f .sfits))
 
--- src/limits.rt:54:8
 edges-good-requires : tie.Need-edges-good-requires
 edges-good-requires c κs = search needs
 
--- src/limits.rt:55:9
 edges-good-requires-2 : tie.Need-edges-good-requires-2
 edges-good-requires-2 c κs = search needs
 
--- src/limits.rt:51:1
 returns : tie.Need-returns
 unfolding rectGood
 returns c =
@@ -38,7 +33,6 @@ returns c =
     let q : SFits w8 (r .trailcol) = search needs in
     (rw (sym h ∙ c .before .before .before .if1 .taken) (rw (toZ-ofZ p, toZ-ofZ q) at (c .edges-good2 .ensures)), weight-fits (r .weight) (search needs))
 
--- src/limits.rt:51:1
 returns-2 : tie.Need-returns-2
 unfolding rectGood
 returns-2 c =

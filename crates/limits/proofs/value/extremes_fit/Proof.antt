@@ -1,3 +1,4 @@
+-- Question 10: the extremes, divided and rounded down, against the ends of the word, both sides in whole numbers.
 use Rattle.limits.proofs.Values.{value-slots}
 use borrow.Author.Tests.{lt-ltb, le-ltb}
 use Prim.Native.Nat.{ℕ, _-_, _*_, _^_, _≤_}
@@ -10,10 +11,6 @@ use native.Mathlib.Omega.{arith}
 use borrow.Author.Needs.{needs}
 use Rattle.limits.proofs.value.extremes_fit.Statement.{statement}
 use Rattle.limits.proofs.value.extremes_fit.Tie as tie
-use Rattle.limits.proofs.value.extremes_fit.Reads as reads
-use Rattle.limits.proofs.value.extremes_fit.Lts as lts
-use Rattle.arith.proofs.power.Reads as power-reads
-use Rattle.limits.proofs.value.extremes_of.Reads as extremes-of-reads
 
 -- (2^b - 1) times a sum fits, for b up to 12
 fits12 : {b p x : ℕ} → b ≤ 12 → p ≡ 2 ^ b → x ≤ 34359738368 → Fits w64 ((p - 1) * x)
@@ -23,57 +20,44 @@ fits12 {b} {p} {x} h e l =
     let m = mul-le-mul n l in
     omega arith
 
--- src/limits.rt:137:9
 extremes-of-requires : tie.Need-extremes-of-requires
 extremes-of-requires c κs = search needs
 
--- src/limits.rt:138:15
 power-requires : tie.Need-power-requires
 power-requires c κs = search needs
 
--- src/limits.rt:138:15
 sub-top : tie.Need-sub-top
 sub-top c = let e = c .power .ensures .0 (omega arith) in
     let p = pow-pos (c .before .before .args .t .b) in
     omega arith
 
--- src/limits.rt:139:16
 mul-high : tie.Need-mul-high
 mul-high c = fits12 (c .before .before .before .pre .0 .bits) (c .before .power .ensures .0 (omega arith)) (c .before .before .extremes-of .ensures .high-small)
 
--- src/limits.rt:140:15
 mul-low : tie.Need-mul-low
 mul-low c = fits12 (c .before .before .before .before .pre .0 .bits) (c .before .before .power .ensures .0 (omega arith)) (c .before .before .before .extremes-of .ensures .low-small)
 
--- src/limits.rt:141:17
 cast-if1 : tie.Need-cast-if1
 cast-if1 c = search needs
 
--- src/limits.rt:141:9
 shr-if1 : tie.Need-shr-if1
 shr-if1 c = search needs
 
--- src/limits.rt:141:37
 sub-power : tie.Need-sub-power
 sub-power c = search needs
 
--- src/limits.rt:141:24
 power-requires-2 : tie.Need-power-requires-2
 power-requires-2 c κs = search needs
 
--- src/limits.rt:142:29
 sub-power-2 : tie.Need-sub-power-2
 sub-power-2 c = search needs
 
--- src/limits.rt:142:29
 add-power : tie.Need-add-power
 add-power c = search needs
 
--- src/limits.rt:142:16
 power-requires-3 : tie.Need-power-requires-3
 power-requires-3 c κs = search needs
 
--- src/limits.rt:132:1
 returns : tie.Need-returns
 returns c = let s = c .before .before .before .before .before .before .before .before .before in
     let t = s .before .before .args .t in
@@ -88,7 +72,6 @@ returns c = let s = c .before .before .before .before .before .before .before .b
       lt-ltb _ _ (c .before .before .before .if1 .taken),
     )
 
--- src/limits.rt:132:1
 returns-2 : tie.Need-returns-2
 returns-2 c = let s = c .before .before .before .before .before .before in
     let t = s .before .before .args .t in

@@ -1,3 +1,4 @@
+-- The shares of the rectangles are added up; the invariant is the sum over those passed and its bound.
 use mathlib.Core.Path.{ap, _∙_}
 use Rattle.arith.proofs.Sums.{sum-suc}
 use native.Mathlib.Numerals.{add-one}
@@ -12,9 +13,6 @@ use Prim.Native.Nat.{ℕ, _+_, _*_, _-_, _≤_, _<_}
 use borrow.Author.Needs.{needs}
 use Rattle.limits.proofs.value.extremes_of.Statement.{statement}
 use Rattle.limits.proofs.value.extremes_of.Tie as tie
-use Rattle.limits.proofs.value.extremes_of.Reads as reads
-use Rattle.limits.proofs.value.extremes_of.Lts as lts
-use Rattle.limits.proofs.value.share.Reads as share-reads
 
 abbrev Inv-loop : tie.InvT-loop
 Inv-loop t n high₀ low₀ k₀ high low k = (k ≤ n) × (high ≡ sum k (terms posPart t)) × (low ≡ sum k (terms negPart t)) × (high ≤ k * 2147483648) × (low ≤ k * 2147483648)
@@ -22,40 +20,31 @@ Inv-loop t n high₀ low₀ k₀ high low k = (k ≤ n) × (high ≡ sum k (term
 abbrev μ-loop : tie.MeasureT-loop
 μ-loop t n high₀ low₀ k₀ high low k = n - k
 
--- src/limits.rt:121:5
 loop-holds : tie.Need-loop-holds Inv-loop μ-loop
 unfolding sum
 loop-holds c = (search needs, refl, refl, search needs, search needs)
 
--- src/limits.rt:122:17
 mul-r : tie.Need-mul-r Inv-loop μ-loop
 mul-r c = search needs
 
--- src/limits.rt:122:17
 element-copy-out-r : tie.Need-element-copy-out-r Inv-loop μ-loop
 element-copy-out-r c = search needs
 
--- src/limits.rt:123:13
 share-requires : tie.Need-share-requires Inv-loop μ-loop
 share-requires c κs = search needs
 
--- src/limits.rt:124:9
 add-high : tie.Need-add-high Inv-loop μ-loop
 add-high c = search needs
 
--- src/limits.rt:125:9
 add-low : tie.Need-add-low Inv-loop μ-loop
 add-low c = search needs
 
--- src/limits.rt:126:9
 add-k : tie.Need-add-k Inv-loop μ-loop
 add-k c = search needs
 
--- src/limits.rt:121:5
 loop-less : tie.Need-loop-less Inv-loop μ-loop
 loop-less c = search needs
 
--- src/limits.rt:121:5
 loop-again : tie.Need-loop-again Inv-loop μ-loop
 loop-again c = let i = c .before .before .before .before .before .loop .inv in
     let e = c .before .before .share .ensures in
@@ -63,7 +52,6 @@ loop-again c = let i = c .before .before .before .before .before .loop .inv in
     let l = e .low in
     (omega arith, rw (add-one, sum-suc) (omega arith), rw (add-one, sum-suc) (omega arith), omega arith, omega arith)
 
--- src/limits.rt:113:1
 returns : tie.Need-returns Inv-loop μ-loop
 returns c = let i = c .before .loop .inv in
     let t = c .before .before .args .t1 in

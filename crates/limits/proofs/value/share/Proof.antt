@@ -1,3 +1,4 @@
+-- weight·M·N by the parts of the weight, of which one is 0.
 use mir.Facts.{toZ-ofZ}
 use mir.Syntax.{w16}
 use mir.Val.{SFits}
@@ -8,41 +9,30 @@ use Prim.Native.Nat.{ℕ, _*_, _≤_}
 use borrow.Author.Needs.{needs}
 use Rattle.limits.proofs.value.share.Statement.{statement}
 use Rattle.limits.proofs.value.share.Tie as tie
-use Rattle.limits.proofs.value.share.Reads as reads
-use Rattle.limits.proofs.value.share.Lts as lts
-use Rattle.arith.proofs.sign_parts.Reads as sign-parts-reads
-use Rattle.limits.proofs.value.area.Reads as area-reads
 
 product : (a b : ℕ) → a ≤ 32768 → b ≤ 65536 → a * b ≤ 2147483648
 product a b h k = mul-le-mul h k
 
--- src/value.rt:35:9
 sign-parts-requires : tie.Need-sign-parts-requires
 sign-parts-requires c κs = search needs
 
--- src/value.rt:36:9
 area-requires : tie.Need-area-requires
 area-requires c κs = search needs
 
--- src/value.rt:38:15
 cast-t4 : tie.Need-cast-t4
 cast-t4 c = search needs
 
--- src/value.rt:38:15
 mul-t5 : tie.Need-mul-t5
 mul-t5 c = let a = c .before in
     let h = product _ _ (a .before .sign-parts .ensures .1 .0) (a .area .ensures .1) in omega arith
 
--- src/value.rt:39:14
 cast-t6 : tie.Need-cast-t6
 cast-t6 c = search needs
 
--- src/value.rt:39:14
 mul-t7 : tie.Need-mul-t7
 mul-t7 c = let a = c .before .before in
     let h = product _ _ (a .before .sign-parts .ensures .1 .1) (a .area .ensures .1) in omega arith
 
--- src/value.rt:32:1
 returns : tie.Need-returns
 returns c = let s = c .before .before in
     let r = s .before .before .before .args .r in

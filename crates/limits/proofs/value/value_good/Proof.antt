@@ -1,3 +1,4 @@
+-- Questions 3 to 5 and the count bound the numbers that question 10 works on.
 use Rattle.limits.proofs.Asked.{head-accepted, head-refused, head-bounds}
 use Rattle.limits.specs.Limits.{fitting}
 use borrow.Author.Tests.{le-leb, lt-leb}
@@ -5,20 +6,13 @@ use mathlib.Core.Path.{sym, _∙_}
 use borrow.Author.Needs.{needs}
 use Rattle.limits.proofs.value.value_good.Statement.{statement}
 use Rattle.limits.proofs.value.value_good.Tie as tie
-use Rattle.limits.proofs.value.value_good.Reads as reads
-use Rattle.limits.proofs.value.value_good.Lts as lts
-use Rattle.limits.proofs.header.head.Reads as head-reads
-use Rattle.limits.proofs.value.extremes_fit.Reads as extremes-fit-reads
 
--- src/value.rt:69:9
 head-requires : tie.Need-head-requires
 head-requires c κs = search needs
 
--- src/value.rt:71:35
 enum-told : tie.Need-enum-told
 enum-told c = search needs
 
--- src/value.rt:71:35
 returns : tie.Need-returns
 unfolding fitting
 returns c =
@@ -28,7 +22,6 @@ returns c =
 enum-told-2 : tie.Need-enum-told-2
 enum-told-2 c = search needs
 
--- src/value.rt:75:9
 returns-2 : tie.Need-returns-2
 unfolding fitting
 returns-2 c =
@@ -37,7 +30,6 @@ returns-2 c =
     let h = head-accepted (t .b) (t .q1) (t .q2) (t .q3) (t .t) (t .w) (sym (s .before .before .head .ensures) ∙ s .enum-told2 .given .1) in
     rw (h .bits, h .drops, h .word, lt-leb _ _ (c .if1 .taken))
 
--- src/value.rt:77:5
 extremes-fit-requires : tie.Need-extremes-fit-requires
 extremes-fit-requires c κs =
     let s = c .before .before in
@@ -45,7 +37,6 @@ extremes-fit-requires c κs =
     let h = head-accepted (t .b) (t .q1) (t .q2) (t .q3) (t .t) (t .w) (sym (s .before .before .head .ensures) ∙ s .enum-told2 .given .1) in
     (head-bounds t h, search needs)
 
--- src/value.rt:66:1
 returns-3 : tie.Need-returns-3
 unfolding fitting
 returns-3 c =

@@ -1,3 +1,4 @@
+-- The questions in order; each return is the first no, or that there is none.
 use Rattle.layout.specs.declared.Verdict.the-variants.{Refused}
 use mathlib.Core.Path.{refl}
 use Rattle.rule.proofs.Asked.{width-bounds, height-bounds}
@@ -19,14 +20,6 @@ use mathlib.Core.Path.{_≡_, sym, ap, _∙_}
 use borrow.Author.Needs.{needs}
 use Rattle.pixel.proofs.ask.asked.Statement.{statement}
 use Rattle.pixel.proofs.ask.asked.Tie as tie
-use Rattle.pixel.proofs.ask.asked.Reads as reads
-use Rattle.pixel.proofs.ask.asked.Lts as lts
-use Rattle.arith.proofs.power.Reads as power-reads
-use Rattle.limits.proofs.accepted.Reads as accepted-reads
-use Rattle.pixel.proofs.ask.height_good.Reads as height-good-reads
-use Rattle.pixel.proofs.ask.place_good.Reads as place-good-reads
-use Rattle.rule.proofs.width_good.Reads as width-good-reads
-use Rattle.rule.proofs.first_above.Reads as first-above-reads
 
 -- what a test `!g` says of the definition that g equals
 yes : {g s : Bool} → g ≡ s → not g ≡ false → s ≡ true
@@ -60,31 +53,25 @@ answered c =
 power-is : (c : tie.After-power) → c .power .result ≡ 2 ^ start (c .before) .args .t .b
 power-is c = let b = granted _ (answered (c .before) .table) .bits-most in c .power .ensures .0 (omega arith)
 
--- src/ask.rt:44:9
 accepted-requires : tie.Need-accepted-requires
 accepted-requires c κs = search needs
 
--- src/ask.rt:45:9
 returns : tie.Need-returns
 unfolding pixelAsks
 returns c = rw (sym (c .before .accepted .ensures) ∙ not-true _ (c .if1 .taken))
 
--- src/ask.rt:47:9
 width-good-requires : tie.Need-width-good-requires
 width-good-requires c κs = search needs
 
--- src/ask.rt:48:9
 returns-2 : tie.Need-returns-2
 unfolding pixelAsks
 returns-2 c = let s = c .before in
     let u = s .before in
     rw (yes (u .before .accepted .ensures) (u .if1 .left), no (s .width-good .ensures) (c .if2 .taken))
 
--- src/ask.rt:51:9
 height-good-requires : tie.Need-height-good-requires
 height-good-requires c κs = width-bounds (yes (c .before .width-good .ensures) (c .if2 .left)) .0
 
--- src/ask.rt:52:9
 returns-3 : tie.Need-returns-3
 unfolding pixelAsks
 returns-3 c = let s = c .before in
@@ -92,12 +79,10 @@ returns-3 c = let s = c .before in
     let v = u .before .before in
     rw (yes (v .before .accepted .ensures) (v .if1 .left), yes (u .before .width-good .ensures) (u .if2 .left), no (s .height-good .ensures) (c .if3 .taken))
 
--- src/ask.rt:54:9
 place-good-requires : tie.Need-place-good-requires
 place-good-requires c κs = let u = c .before .before in
     width-bounds (yes (u .before .width-good .ensures) (u .if2 .left)) .0
 
--- src/ask.rt:55:9
 returns-4 : tie.Need-returns-4
 unfolding pixelAsks
 returns-4 c = let s = c .before in
@@ -111,32 +96,26 @@ returns-4 c = let s = c .before in
       no (s .place-good .ensures) (c .if4 .taken),
     )
 
--- src/ask.rt:57:39
 power-requires : tie.Need-power-requires
 power-requires c κs = search needs
 
--- src/ask.rt:57:39
 sub-first-above : tie.Need-sub-first-above
 sub-first-above c = let p = pow-pos (start (c .before) .args .t .b) in
     let e = power-is c in omega arith
 
--- src/ask.rt:57:38
 cast-first-above : tie.Need-cast-first-above
 cast-first-above c = let e = power-is c in
     let p = pow-mono (granted _ (answered (c .before) .table) .bits-most) in search (needs, e, p)
 
--- src/ask.rt:57:9
 first-above-requires : tie.Need-first-above-requires
 first-above-requires c κs = search needs
 
--- src/ask.rt:59:37
 cast-t13 : tie.Need-cast-t13
 cast-t13 c = let s = c .before .before .before in
     let y = answered s in
     let b = height-bounds (y .width) (y .height) .few in
     search (needs, b)
 
--- src/ask.rt:59:9
 returns-5 : tie.Need-returns-5
 unfolding pixelAsks
 returns-5 c = let p = c .before .before in
@@ -148,7 +127,6 @@ returns-5 c = let p = c .before .before in
     rw (y .table, y .width, y .height, y .place, first-below n test (rw (← e) (c .if5 .taken)))
     (ap (Refused 18) e)
 
--- src/ask.rt:41:1
 returns-6 : tie.Need-returns-6
 unfolding pixelAsks
 returns-6 c = let p = c .before .before in

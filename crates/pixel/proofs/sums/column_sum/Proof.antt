@@ -1,3 +1,4 @@
+-- The cut samples of a column are added up; the invariant is the sum of those passed and its bound.
 use lib.Pow.{shr-le}
 use native.Mathlib.Numerals.{add-one}
 use native.Mathlib.Omega.{arith}
@@ -11,9 +12,6 @@ use Prim.Native.Nat.{ℕ, _+_, _-_, _*_, _/_, _^_, _≤_, _<_}
 use borrow.Author.Needs.{needs}
 use Rattle.pixel.proofs.sums.column_sum.Statement.{statement}
 use Rattle.pixel.proofs.sums.column_sum.Tie as tie
-use Rattle.pixel.proofs.sums.column_sum.Reads as reads
-use Rattle.pixel.proofs.sums.column_sum.Lts as lts
-use Rattle.pixel.proofs.sums.sample.Reads as sample-reads
 
 -- term i of the sum
 abbrev cell : List ℕ → (width top col q1 : ℕ) → ℕ → ℕ
@@ -25,46 +23,36 @@ Inv-loop samples width top col m q1 s₀ i₀ s i = (i ≤ m) × (s ≡ sum i (c
 abbrev μ-loop : tie.MeasureT-loop
 μ-loop samples width top col m q1 s₀ i₀ s i = m - i
 
--- src/sums.rt:43:5
 loop-holds : tie.Need-loop-holds Inv-loop μ-loop
 unfolding sum
 loop-holds c = (search needs, refl, search needs)
 
--- src/sums.rt:44:46
 cast-sample : tie.Need-cast-sample Inv-loop μ-loop
 cast-sample c = search needs
 
--- src/sums.rt:44:40
 add-sample : tie.Need-add-sample Inv-loop μ-loop
 add-sample c = search needs
 
--- src/sums.rt:44:13
 sample-requires : tie.Need-sample-requires Inv-loop μ-loop
 sample-requires c κs = search needs
 
--- src/sums.rt:45:15
 shr-s : tie.Need-shr-s Inv-loop μ-loop
 shr-s c = search needs
 
--- src/sums.rt:45:14
 cast-s : tie.Need-cast-s Inv-loop μ-loop
 cast-s c = let l = shr-le (c .sample .result) (c .before .before .before .before .args .q1) in
     search (needs, l)
 
--- src/sums.rt:45:9
 add-s : tie.Need-add-s Inv-loop μ-loop
 add-s c = let l = shr-le (c .sample .result) (c .before .before .before .before .args .q1) in
     search (needs, l)
 
--- src/sums.rt:46:9
 add-i : tie.Need-add-i Inv-loop μ-loop
 add-i c = search needs
 
--- src/sums.rt:43:5
 loop-less : tie.Need-loop-less Inv-loop μ-loop
 loop-less c = search needs
 
--- src/sums.rt:43:5
 loop-again : tie.Need-loop-again Inv-loop μ-loop
 loop-again c = let s = c .before .before in
     let a = s .before .before .args in
@@ -73,7 +61,6 @@ loop-again c = let s = c .before .before in
     let e = ap (λ x. x / 2 ^ a .q1) (c .sample .ensures) in
     (search needs, rw (add-one, sum-suc) (omega arith), search (needs, l))
 
--- src/sums.rt:36:1
 returns : tie.Need-returns Inv-loop μ-loop
 returns c = let s = c .before in
     let a = s .before .before .args in

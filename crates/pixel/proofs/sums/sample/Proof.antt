@@ -1,3 +1,4 @@
+-- A place of the frame is one of the scan, or outside it and 0.
 use lib.IntN.{subℕ, pos, negsuc}
 use Prim.Native.Nat.{ℕ, _-_, _*_, _+_, _≤_, _<_}
 use lib.ListN.{getD, List·getD-eq-default}
@@ -10,40 +11,32 @@ use Rattle.rule.specs.Sums.{sampleAt}
 use borrow.Author.Needs.{needs}
 use Rattle.pixel.proofs.sums.sample.Statement.{statement}
 use Rattle.pixel.proofs.sums.sample.Tie as tie
-use Rattle.pixel.proofs.sums.sample.Reads as reads
-use Rattle.pixel.proofs.sums.sample.Lts as lts
 
--- src/sums.rt:20:9
 returns : tie.Need-returns
 unfolding sampleAt
 returns c = rw (sub-low (c .before .args .row) 128 (c .if1 .taken)) refl
 
--- src/sums.rt:23:9
 returns-2 : tie.Need-returns-2
 unfolding sampleAt
 returns-2 c = rw (sub-high (c .before .before .args .row) 128 (c .before .if1 .left), sub-low (c .before .before .args .col) 128 (c .if2 .taken)) refl
 
--- src/sums.rt:26:9
 returns-3 : tie.Need-returns-3
 unfolding sampleAt
 returns-3 c = let a = c .before .before .before .args in
     rw (sub-high (a .row) 128 (c .before .before .if1 .left), sub-high (a .col) 128 (c .before .if2 .left), le-ltb _ _ (c .if3 .taken)) refl
 
--- src/sums.rt:28:14
 mul-at : tie.Need-mul-at
 mul-at c = let a = c .before .before .before in
     let l : a .args .row - 128 ≤ 1048576 = search needs in
     let m = mul-le-mul l (a .pre .0) in
     search (needs, m)
 
--- src/sums.rt:28:14
 add-at : tie.Need-add-at
 add-at c = let a = c .before .before .before in
     let l : a .args .row - 128 ≤ 1048576 = search needs in
     let m = mul-le-mul l (a .pre .0) in
     search (needs, m)
 
--- src/sums.rt:30:9
 returns-4 : tie.Need-returns-4
 unfolding sampleAt
 returns-4 c = let s = c .before in
@@ -51,15 +44,12 @@ returns-4 c = let s = c .before in
     rw (sub-high (a .row) 128 (s .before .before .if1 .left), sub-high (a .col) 128 (s .before .if2 .left), lt-ltb _ _ (s .if3 .left))
     (sym (List·getD-eq-default (a .samples .now) 0 {n = (a .row - 128) * a .width + (a .col - 128)} (search needs)))
 
--- src/sums.rt:32:5
 mul-result : tie.Need-mul-result
 mul-result c = search needs
 
--- src/sums.rt:32:5
 shared-slice-read-result : tie.Need-shared-slice-read-result
 shared-slice-read-result c = search needs
 
--- src/sums.rt:15:1
 returns-5 : tie.Need-returns-5
 unfolding sampleAt
 returns-5 c = let s = c .before .before in

@@ -1,3 +1,4 @@
+-- The cut column sums are added up; a place of the frame is a covered place of the rule.
 use mir.Facts.{toZ-ofZ}
 use mir.Syntax.{w8}
 use mir.Val.{SFits}
@@ -19,12 +20,6 @@ use Prim.Native.Nat.{ℕ, _+_, _-_, _*_, _/_, _^_, _≤_, _<_}
 use borrow.Author.Needs.{needs}
 use Rattle.pixel.proofs.sums.window_sum.Statement.{statement}
 use Rattle.pixel.proofs.sums.window_sum.Tie as tie
-use Rattle.pixel.proofs.sums.window_sum.Reads as reads
-use Rattle.pixel.proofs.sums.window_sum.Lts as lts
-use Rattle.arith.proofs.biased_byte.Reads as biased-byte-reads
-use Rattle.layout.proofs.columns.Reads as columns-reads
-use Rattle.layout.proofs.rows.Reads as rows-reads
-use Rattle.pixel.proofs.sums.column_sum.Reads as column-sum-reads
 
 -- the cut sum of column j of the frame
 abbrev column : List ℕ → (width top m q1 q2 left : ℕ) → ℕ → ℕ
@@ -48,85 +43,65 @@ Inv-loop t width samples r c top left m n s₀ j₀ s j = (j ≤ n) × (s ≡ su
 abbrev μ-loop : tie.MeasureT-loop
 μ-loop t width samples r c top left m n s₀ j₀ s j = n - j
 
--- src/sums.rt:56:15
 add-top : tie.Need-add-top Inv-loop μ-loop
 add-top c = search needs
 
--- src/sums.rt:56:23
 biased-byte-requires : tie.Need-biased-byte-requires Inv-loop μ-loop
 biased-byte-requires c κs = search needs
 
--- src/sums.rt:56:23
 cast-top : tie.Need-cast-top Inv-loop μ-loop
 cast-top c = search needs
 
--- src/sums.rt:56:15
 add-top-2 : tie.Need-add-top-2 Inv-loop μ-loop
 add-top-2 c = search needs
 
--- src/sums.rt:57:16
 add-left : tie.Need-add-left Inv-loop μ-loop
 add-left c = search needs
 
--- src/sums.rt:57:24
 biased-byte-requires-2 : tie.Need-biased-byte-requires-2 Inv-loop μ-loop
 biased-byte-requires-2 c κs = search needs
 
--- src/sums.rt:57:24
 cast-left : tie.Need-cast-left Inv-loop μ-loop
 cast-left c = search needs
 
--- src/sums.rt:57:16
 add-left-2 : tie.Need-add-left-2 Inv-loop μ-loop
 add-left-2 c = search needs
 
--- src/sums.rt:58:9
 rows-requires : tie.Need-rows-requires Inv-loop μ-loop
 rows-requires c κs = search needs
 
--- src/sums.rt:59:9
 columns-requires : tie.Need-columns-requires Inv-loop μ-loop
 columns-requires c κs = search needs
 
--- src/sums.rt:62:5
 loop-holds : tie.Need-loop-holds Inv-loop μ-loop
 unfolding sum
 loop-holds c = (search needs, refl, search needs)
 
--- src/sums.rt:63:53
 cast-column-sum : tie.Need-cast-column-sum Inv-loop μ-loop
 cast-column-sum c = search needs
 
--- src/sums.rt:63:46
 add-column-sum : tie.Need-add-column-sum Inv-loop μ-loop
 add-column-sum c = search needs
 
--- src/sums.rt:63:14
 column-sum-requires : tie.Need-column-sum-requires Inv-loop μ-loop
 column-sum-requires c κs = search needs
 
--- src/sums.rt:63:77
 cast-s : tie.Need-cast-s Inv-loop μ-loop
 cast-s c = search needs
 
--- src/sums.rt:63:14
 shr-s : tie.Need-shr-s Inv-loop μ-loop
 shr-s c = search needs
 
--- src/sums.rt:63:9
 add-s : tie.Need-add-s Inv-loop μ-loop
 add-s c = let l = shr-le (c .before .column-sum .result) (c .before .before .before .before .before .before .before .before .before .before .before .args .t .q2) in
     search (needs, l)
 
--- src/sums.rt:64:9
 add-j : tie.Need-add-j Inv-loop μ-loop
 add-j c = search needs
 
--- src/sums.rt:62:5
 loop-less : tie.Need-loop-less Inv-loop μ-loop
 loop-less c = search needs
 
--- src/sums.rt:62:5
 loop-again : tie.Need-loop-again Inv-loop μ-loop
 loop-again c = let s = c .before .before .before in
     let a = s .before .before .before .before .before .before .before .before .args in
@@ -135,7 +110,6 @@ loop-again c = let s = c .before .before .before in
     let e = ap (λ x. x / 2 ^ a .t .q2) (c .before .column-sum .ensures .0) in
     (search needs, rw (add-one, sum-suc) (omega arith), search (needs, l))
 
--- src/sums.rt:52:1
 returns : tie.Need-returns Inv-loop μ-loop
 returns c = let s = c .before in
     let m = s .before .before in

@@ -1,3 +1,4 @@
+-- The window sum cut and scaled back; with samples of b bits it is below 2^22.
 use Rattle.rule.proofs.Fitting.{full-most, scaled-le-full}
 use Rattle.rule.specs.Sums.{sampleAt, cutSum, scaledSum}
 use lib.Pow.{shr-le, pow-mono}
@@ -9,10 +10,6 @@ use Prim.Native.Nat.{ℕ, _-_, _*_, _/_, _^_, _≤_, _<_}
 use borrow.Author.Needs.{needs}
 use Rattle.pixel.proofs.value.scaled_sum.Statement.{statement}
 use Rattle.pixel.proofs.value.scaled_sum.Tie as tie
-use Rattle.pixel.proofs.value.scaled_sum.Reads as reads
-use Rattle.pixel.proofs.value.scaled_sum.Lts as lts
-use Rattle.arith.proofs.power.Reads as power-reads
-use Rattle.pixel.proofs.sums.window_sum.Reads as window-sum-reads
 
 abbrev start : tie.After-power → tie.Start
 start c = c .before .before .before .before .before .before
@@ -41,39 +38,30 @@ small c =
     let m = mul-le-mul n e in
     omega arith
 
--- src/value.rt:28:15
 window-sum-requires : tie.Need-window-sum-requires
 window-sum-requires c κs = search needs
 
--- src/value.rt:28:57
 cast-cut : tie.Need-cast-cut
 cast-cut c = search needs
 
--- src/value.rt:28:15
 shr-cut : tie.Need-shr-cut
 shr-cut c = search needs
 
--- src/value.rt:29:5
 cast-result : tie.Need-cast-result
 cast-result c = let l = shr-le (c .before .window-sum .result) (c .before .before .before .args .t .q3) in search (needs, l)
 
--- src/value.rt:29:24
 add-power : tie.Need-add-power
 add-power c = search needs
 
--- src/value.rt:29:24
 add-power-2 : tie.Need-add-power-2
 add-power-2 c = search needs
 
--- src/value.rt:29:18
 power-requires : tie.Need-power-requires
 power-requires c κs = search needs
 
--- src/value.rt:29:5
 mul-result : tie.Need-mul-result
 mul-result c = let e = scaled c in let l = small c in search (needs, e, l)
 
--- src/value.rt:21:1
 returns : tie.Need-returns
 returns c = (scaled c, rw (scaled c) (small c))
 

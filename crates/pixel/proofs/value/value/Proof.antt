@@ -1,3 +1,4 @@
+-- The weighted sums above and below zero are added up apart; their difference is the value, and its floor fits the word.
 use Rattle.rule.proofs.Fitting.{pixel-fits}
 use Rattle.rule.proofs.Accurate.{weighted}
 use Rattle.arith.proofs.Words.{fits-widen, fits-mag}
@@ -24,11 +25,6 @@ use Prim.Native.Nat.{ℕ, _+_, _-_, _*_, _≤_, _<_}
 use borrow.Author.Needs.{needs}
 use Rattle.pixel.proofs.value.value.Statement.{statement}
 use Rattle.pixel.proofs.value.value.Tie as tie
-use Rattle.pixel.proofs.value.value.Reads as reads
-use Rattle.pixel.proofs.value.value.Lts as lts
-use Rattle.arith.proofs.sign_parts.Reads as sign-parts-reads
-use Rattle.pixel.proofs.value.scaled_sum.Reads as scaled-sum-reads
-use Rattle.pixel.proofs.value.settled.Reads as settled-reads
 
 -- the parts of rectangle k's term
 abbrev sums : Table → (width : ℕ) → List ℕ → (r c k : ℕ) → ℕ
@@ -64,20 +60,16 @@ value-is c = let l = c .before in
     let q = i .2 ∙ ap (λ n. sum n (lows (a .t1) (a .width) (a .samples .now) (a .r) (a .c))) e in
     diff-eq (diff-sub (l .loop .above) (l .loop .below)) (weighted (a .t1) (sums (a .t1) (a .width) (a .samples .now) (a .r) (a .c))) (omega arith)
 
--- src/value.rt:52:5
 loop-holds : tie.Need-loop-holds Inv-loop μ-loop
 unfolding sum
 loop-holds c = (search needs, refl, refl, search needs, search needs)
 
--- src/value.rt:53:17
 mul-d : tie.Need-mul-d Inv-loop μ-loop
 mul-d c = let n = granted _ (c .before .before .before .pre .0 .0) .few in search (needs, n)
 
--- src/value.rt:53:17
 element-copy-out-d : tie.Need-element-copy-out-d Inv-loop μ-loop
 element-copy-out-d c = let n = granted _ (c .before .before .before .pre .0 .0) .few in search (needs, n)
 
--- src/value.rt:54:13
 scaled-sum-requires : tie.Need-scaled-sum-requires Inv-loop μ-loop
 scaled-sum-requires c κs = let s = c .before .before .before .before in
     let g = granted (s .args .t1) (s .pre .0 .0) in
@@ -86,47 +78,37 @@ scaled-sum-requires c κs = let s = c .before .before .before .before in
     let b = g .bounds (c .before .before .loop .k) (search needs) in
     (s .pre .1, ((m, omega arith, g .q2-most, g .q3-most, b .rows-most, b .cols-most), s .pre .0 .1))
 
--- src/value.rt:55:13
 sign-parts-requires : tie.Need-sign-parts-requires Inv-loop μ-loop
 sign-parts-requires c κs = search needs
 
--- src/value.rt:56:18
 cast-above : tie.Need-cast-above Inv-loop μ-loop
 cast-above c = search needs
 
--- src/value.rt:56:18
 mul-above : tie.Need-mul-above Inv-loop μ-loop
 mul-above c = let h = product _ _ (c .before .sign-parts .ensures .1 .0) (c .before .before .before .scaled-sum .ensures .1) in search (needs, h)
 
--- src/value.rt:56:9
 add-above : tie.Need-add-above Inv-loop μ-loop
 add-above c = let l = c .before .before .before .before .before .before in
     let n = granted _ (l .before .before .pre .0 .0) .few in
     let h = product _ _ (c .before .sign-parts .ensures .1 .0) (c .before .before .before .scaled-sum .ensures .1) in search (needs, h, n)
 
--- src/value.rt:57:18
 cast-below : tie.Need-cast-below Inv-loop μ-loop
 cast-below c = search needs
 
--- src/value.rt:57:18
 mul-below : tie.Need-mul-below Inv-loop μ-loop
 mul-below c = let h = product _ _ (c .before .before .sign-parts .ensures .1 .1) (c .before .before .before .before .scaled-sum .ensures .1) in search (needs, h)
 
--- src/value.rt:57:9
 add-below : tie.Need-add-below Inv-loop μ-loop
 add-below c = let l = c .before .before .before .before .before .before .before in
     let n = granted _ (l .before .before .pre .0 .0) .few in
     let h = product _ _ (c .before .before .sign-parts .ensures .1 .1) (c .before .before .before .before .scaled-sum .ensures .1) in search (needs, h, n)
 
--- src/value.rt:58:9
 add-k : tie.Need-add-k Inv-loop μ-loop
 add-k c = search needs
 
--- src/value.rt:52:5
 loop-less : tie.Need-loop-less Inv-loop μ-loop
 loop-less c = search needs
 
--- src/value.rt:52:5
 loop-again : tie.Need-loop-again Inv-loop μ-loop
 loop-again c = let p = c .before .before in
     let s = p .before .before in
@@ -145,10 +127,9 @@ loop-again c = let p = c .before .before in
       search (needs, y),
     )
 
--- src/value.rt:60:5
-settled-requires : tie.Need-settled-requires Inv-loop μ-loop
+round-pixel-requires : tie.Need-round-pixel-requires Inv-loop μ-loop
 unfolding pixelOf
-settled-requires c κs = let l = c .before in
+round-pixel-requires c κs = let l = c .before in
     let s = l .before .before in
     let a = s .args in
     let g = granted (a .t1) (s .pre .0 .0) in
@@ -157,10 +138,9 @@ settled-requires c κs = let l = c .before in
       rw (value-is c) (fits-widen (a .t1 .w) 32 _ (g .word-most) (pixel-fits (a .t1) (s .pre .0 .0) {x = sampleAt (a .width) (a .samples .now)} (s .pre .0 .1) (pos (a .r)) (pos (a .c)))),
     )
 
--- src/value.rt:43:1
 returns : tie.Need-returns Inv-loop μ-loop
 unfolding pixelOf
-returns c = toZ-ofZ (record { sfits = c .settled .ok }) ∙ c .settled .ensures ∙ ap (λ v. floorDiv v (c .before .before .before .before .args .t1 .t)) (value-is (c .before))
+returns c = toZ-ofZ (record { sfits = c .round-pixel .ok }) ∙ c .round-pixel .ensures ∙ ap (λ v. floorDiv v (c .before .before .before .before .args .t1 .t)) (value-is (c .before))
 
 pub value-spec : {M : Type 1} → statement M
 value-spec =
@@ -182,5 +162,5 @@ value-spec =
     add-k
     loop-less
     loop-again
-    settled-requires
+    round-pixel-requires
     returns)

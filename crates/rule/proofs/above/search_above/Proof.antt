@@ -1,3 +1,4 @@
+-- Every sample passed is within the limit, so the first that is not has the lowest place.
 use lib.Dec.{le→leb}
 use Rattle.arith.proofs.Alls.{up-to}
 use borrow.Author.Tests.{lt-leb}
@@ -12,8 +13,6 @@ use Prim.Native.Nat.{ℕ, _-_, _≤_, _<_}
 use borrow.Author.Needs.{needs}
 use Rattle.rule.proofs.above.search_above.Statement.{statement}
 use Rattle.rule.proofs.above.search_above.Tie as tie
-use Rattle.rule.proofs.above.search_above.Reads as reads
-use Rattle.rule.proofs.above.search_above.Lts as lts
 
 abbrev Inv-loop : tie.InvT-loop
 Inv-loop samples limit k₀ k = (k ≤ length samples) × ((j : ℕ) → j < k → T (atMost limit samples j))
@@ -21,39 +20,31 @@ Inv-loop samples limit k₀ k = (k ≤ length samples) × ((j : ℕ) → j < k �
 abbrev μ-loop : tie.MeasureT-loop
 μ-loop samples limit k₀ k = length samples - k
 
--- src/above.rt:12:5
 loop-holds : tie.Need-loop-holds Inv-loop μ-loop
 loop-holds c = (search needs, λ j l. absurd (not-suc-le-zero l))
 
--- src/above.rt:13:12
 mul-if1 : tie.Need-mul-if1 Inv-loop μ-loop
 mul-if1 c = search needs
 
--- src/above.rt:13:12
 shared-slice-read-if1 : tie.Need-shared-slice-read-if1 Inv-loop μ-loop
 shared-slice-read-if1 c = search needs
 
--- src/above.rt:14:13
 returns : tie.Need-returns Inv-loop μ-loop
 returns c = let s = c .before .before .before in
     let a = s .before .args in
     sym (first-at _ (atMost (a .limit) (a .samples .now)) (s .loop .k) (search needs) (s .loop .inv .1) (lt-leb _ _ (c .if1 .taken)))
 
--- src/above.rt:16:9
 add-k : tie.Need-add-k Inv-loop μ-loop
 add-k c = search needs
 
--- src/above.rt:12:5
 loop-less : tie.Need-loop-less Inv-loop μ-loop
 loop-less c = search needs
 
--- src/above.rt:12:5
 loop-again : tie.Need-loop-again Inv-loop μ-loop
 loop-again c = let s = c .before .before .before in
     let a = s .before .args in
     (search needs, up-to {P = λ j. T (atMost (a .limit) (a .samples .now) j)} (s .loop .k) (s .loop .inv .1) (le→leb (getD (a .samples .now) (s .loop .k) 0) (a .limit) (search needs)))
 
--- src/above.rt:8:1
 returns-2 : tie.Need-returns-2 Inv-loop μ-loop
 returns-2 c = let s = c .before in
     let f = atMost (s .before .args .limit) (s .before .args .samples .now) in

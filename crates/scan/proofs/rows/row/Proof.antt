@@ -1,3 +1,4 @@
+-- The questions before 19, then the arrival; what is left of the call is what its definition leaves, by the verdicts of both.
 use Rattle.scan.proofs.Rooms.{Asked, asked, counts, arrives}
 use Rattle.scan.proofs.Lefts.{row-by, row-arrives}
 use Rattle.arrival.specs.Arrivals.{Fits}
@@ -9,11 +10,6 @@ use mathlib.Core.Path.{_≡_, refl, sym, _∙_}
 use borrow.Author.Needs.{needs}
 use Rattle.scan.proofs.rows.row.Statement.{statement}
 use Rattle.scan.proofs.rows.row.Tie as tie
-use Rattle.scan.proofs.rows.row.Reads as reads
-use Rattle.scan.proofs.rows.row.Lts as lts
-use Rattle.arrival.proofs.arrive.Reads as arrive-reads
-use Rattle.scan.proofs.rows.row_asked.Reads as row-asked-reads
-use Rattle.scan.proofs.rows.row_taken.Reads as row-taken-reads
 
 abbrev start : tie.After-enum-told → tie.Start
 start c = c .before .before .before .before .before .before
@@ -30,72 +26,55 @@ arrived : (c : tie.After-enum-told)
     → Fits (arrivalOf (world (start c .args .s) (start c .args .samples .now) (start c .args .sums .now)) (start c .args .row .now)) (length (start c .args .out .now))
 arrived c = let h = known c in arrives _ _ _ (h .state) (h .long) (h .lent)
 
--- src/rows.rt:96:9
 row-asked-requires : tie.Need-row-asked-requires
 row-asked-requires c κs = search needs
 
--- src/rows.rt:98:26
 enum-known-v : tie.Need-enum-known-v
 enum-known-v c = search needs
 
--- src/rows.rt:103:36
 enum-told : tie.Need-enum-told
 enum-told c = search needs
 
--- src/rows.rt:70:53
 add-arrive : tie.Need-add-arrive
 add-arrive c = let n = counts (start (c .before) .args .s) (known (c .before) .state) in search (needs, n .0, n .1)
 
--- src/rows.rt:103:17
 arrive-requires : tie.Need-arrive-requires
 arrive-requires c κs = arrived (c .before .before .before .before)
 
--- src/rows.rt:105:34
 enum-known-w : tie.Need-enum-known-w
 enum-known-w c = search needs
 
--- src/rows.rt:109:38
 enum-told-2 : tie.Need-enum-told-2
 enum-told-2 c = search needs
 
--- src/rows.rt:109:38
 row-taken-requires : tie.Need-row-taken-requires
 row-taken-requires c κs = let p = c .before .before .before .before .before .before .before .before .before .before .before .before in counts (start p .args .s) (known p .state)
 
--- src/rows.rt:89:1
 returns : tie.Need-returns
 returns c = rw (row-by, sym (c .before .before .before .row-asked .ensures) ∙ c .before .v .given .1) refl
 
--- src/rows.rt:89:1
 same-length : tie.Need-same-length
 same-length c = search needs
 
--- src/rows.rt:89:1
 same-length-2 : tie.Need-same-length-2
 same-length-2 c = search needs
 
--- src/rows.rt:89:1
 same-length-3 : tie.Need-same-length-3
 same-length-3 c = search needs
 
--- src/rows.rt:89:1
 returns-2 : tie.Need-returns-2
 returns-2 c = let m = c .before .before .before .before .before .before .before .before in
     row-arrives _ _ _ (accepted (m .before .before .before .before .before)) (rw (c .before .w .given .1) at (m .arrive .ensures))
 
--- src/rows.rt:89:1
 same-length-4 : tie.Need-same-length-4
 same-length-4 c = search needs
 
--- src/rows.rt:89:1
 same-length-5 : tie.Need-same-length-5
 same-length-5 c = search needs
 
--- src/rows.rt:89:1
 same-length-6 : tie.Need-same-length-6
 same-length-6 c = search needs
 
--- src/rows.rt:89:1
 returns-3 : tie.Need-returns-3
 returns-3 c = let m = c .before .before .before .before .before .before .before .before in
     let e = rw (c .before .enum-told2 .given .1) at (m .arrive .ensures) in

@@ -1,3 +1,4 @@
+-- The questions of a row before 19, in order; each return is the first no, or that there is none.
 use Rattle.scan.proofs.States.{Agreed, agreed}
 use Rattle.arrival.specs.Arrivals.{storesGood}
 use Rattle.scan.specs.Calls.{agrees, lentGood, rowAsks}
@@ -20,12 +21,6 @@ use Rattle.arrival.proofs.Answered.{yes, no}
 use borrow.Author.Needs.{needs}
 use Rattle.scan.proofs.rows.row_asked.Statement.{statement}
 use Rattle.scan.proofs.rows.row_asked.Tie as tie
-use Rattle.scan.proofs.rows.row_asked.Reads as reads
-use Rattle.scan.proofs.rows.row_asked.Lts as lts
-use Rattle.arith.proofs.power.Reads as power-reads
-use Rattle.rule.proofs.first_above.Reads as first-above-reads
-use Rattle.scan.proofs.state.lent_good.Reads as lent-good-reads
-use Rattle.scan.proofs.state.state_good.Reads as state-good-reads
 
 -- the start of a call whose questions up to 17 are answered yes
 abbrev start : tie.Else4 → tie.Start
@@ -58,29 +53,24 @@ power-is c =
     let b = granted _ (agreed _ (answered (c .before .before .before) .state) .table) .bits-most in
     c .power .ensures .0 (omega arith)
 
--- src/rows.rt:63:9
 state-good-requires : tie.Need-state-good-requires
 state-good-requires c κs = search needs
 
--- src/rows.rt:64:9
 returns : tie.Need-returns
 unfolding rowAsks
 returns c = rw (no (c .before .state-good .ensures) (c .if1 .taken)) refl
 
--- src/rows.rt:67:9
 returns-2 : tie.Need-returns-2
 unfolding rowAsks
 returns-2 c = let u = c .before in
     rw (yes (u .before .state-good .ensures) (u .if1 .left), c .if2 .taken) refl
 
--- src/rows.rt:70:9
 returns-3 : tie.Need-returns-3
 unfolding rowAsks
 returns-3 c = let w = c .before .before in
     let u = w .before in
     rw (yes (u .before .state-good .ensures) (u .if1 .left), w .if2 .left, le-ltb _ _ (c .if3 .taken)) refl
 
--- src/rows.rt:74:9
 returns-4 : tie.Need-returns-4
 unfolding rowAsks
 returns-4 c = let x = c .before in
@@ -88,36 +78,29 @@ returns-4 c = let x = c .before in
     let u = w .before in
     rw (yes (u .before .state-good .ensures) (u .if1 .left), w .if2 .left, lt-ltb _ _ (x .if3 .left), ne-eqb _ _ (c .if4 .taken)) refl
 
--- src/rows.rt:77:9
 lent-good-requires : tie.Need-lent-good-requires
 lent-good-requires c κs = search needs
 
--- src/rows.rt:78:9
 returns-5 : tie.Need-returns-5
 unfolding rowAsks
 returns-5 c = let y = answered (c .before .before) in
     rw (y .state, no (c .before .lent-good .ensures) (c .if5 .taken), y .opened, y .few, y .long) refl
 
--- src/rows.rt:80:35
 power-requires : tie.Need-power-requires
 power-requires c κs = search needs
 
--- src/rows.rt:80:35
 sub-first-above : tie.Need-sub-first-above
 sub-first-above c = let p = pow-pos (start (c .before .before .before) .args .s .table .b) in
     let e = power-is c in omega arith
 
--- src/rows.rt:80:34
 cast-first-above : tie.Need-cast-first-above
 cast-first-above c = let e = power-is c in
     let b = granted _ (agreed _ (answered (c .before .before .before) .state) .table) .bits-most in
     let p = pow-mono b in search (needs, e, p)
 
--- src/rows.rt:80:9
 first-above-requires : tie.Need-first-above-requires
 first-above-requires c κs = search needs
 
--- src/rows.rt:82:37
 cast-t14 : tie.Need-cast-t14
 cast-t14 c = let s = c .before .before .before .before .before in
     let a = agreed _ (answered s .state) in
@@ -125,7 +108,6 @@ cast-t14 c = let s = c .before .before .before .before .before in
     let e = s .if4 .left in
     search (needs, w, e)
 
--- src/rows.rt:82:9
 returns-6 : tie.Need-returns-6
 unfolding rowAsks
 returns-6 c = let p = c .before .before in
@@ -136,7 +118,6 @@ returns-6 c = let p = c .before .before in
     rw (y .state, lent (p .before), y .opened, y .few, y .long, first-below (length (a .row .now)) (atMost (2 ^ a .s .table .b - 1) (a .row .now)) (rw (← e) (c .if6 .taken)))
     (ap (Refused 18) e)
 
--- src/rows.rt:60:1
 returns-7 : tie.Need-returns-7
 unfolding rowAsks
 returns-7 c = let p = c .before .before in

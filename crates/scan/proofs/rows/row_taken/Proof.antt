@@ -1,31 +1,24 @@
+-- Row a - D is out from arrival D on; the numbers of a state that agrees are small.
 use Rattle.scan.specs.Calls.{dueSaid}
 use borrow.Author.Tests.{lt-ltb, le-ltb}
 use mathlib.Core.Path.{refl, sym, ap, _∙_}
 use borrow.Author.Needs.{needs}
 use Rattle.scan.proofs.rows.row_taken.Statement.{statement}
 use Rattle.scan.proofs.rows.row_taken.Tie as tie
-use Rattle.scan.proofs.rows.row_taken.Reads as reads
-use Rattle.scan.proofs.rows.row_taken.Lts as lts
-use Rattle.layout.proofs.delay.Reads as delay-reads
 
--- src/rows.rt:121:13
 add-a : tie.Need-add-a
 add-a c = search needs
 
--- src/rows.rt:122:9
 delay-requires : tie.Need-delay-requires
 delay-requires c κs = search needs
 
--- src/rows.rt:124:18
 add-after : tie.Need-add-after
 add-after c = search needs
 
--- src/rows.rt:126:9
 returns : tie.Need-returns
 unfolding dueSaid
 returns c = (rw (lt-ltb _ _ (rw (c .before .before .delay .ensures) at (c .if1 .taken))) refl, refl)
 
--- src/rows.rt:116:1
 returns-2 : tie.Need-returns-2
 unfolding dueSaid
 returns-2 c = let e = c .before .before .delay .ensures in

@@ -1,28 +1,22 @@
+-- Questions 14 and 15; no store is looked at, so the equation holds of any.
 use Rattle.scan.specs.Calls.{closeOf}
 use mathlib.Core.Path.{_≡_, refl, sym, ap, _∙_}
 use Rattle.arrival.proofs.Answered.{yes, no}
 use borrow.Author.Needs.{needs}
 use Rattle.scan.proofs.starts.close.Statement.{statement}
 use Rattle.scan.proofs.starts.close.Tie as tie
-use Rattle.scan.proofs.starts.close.Reads as reads
-use Rattle.scan.proofs.starts.close.Lts as lts
-use Rattle.scan.proofs.state.state_good.Reads as state-good-reads
 
--- src/starts.rt:89:9
 state-good-requires : tie.Need-state-good-requires
 state-good-requires c κs = search needs
 
--- src/starts.rt:90:9
 returns : tie.Need-returns
 unfolding closeOf
 returns c = let e = no (c .before .state-good .ensures) (c .if1 .taken) in λ samples sums. rw e refl
 
--- src/starts.rt:96:9
 returns-2 : tie.Need-returns-2
 unfolding closeOf
 returns-2 c = let e = yes (c .before .before .state-good .ensures) (c .before .if1 .left) in λ samples sums. rw (e, c .if2 .taken) refl
 
--- src/starts.rt:85:1
 returns-3 : tie.Need-returns-3
 unfolding closeOf
 returns-3 c = let e = yes (c .before .before .state-good .ensures) (c .before .if1 .left) in λ samples sums. rw (e, c .if2 .left) refl

@@ -1,3 +1,4 @@
+-- The questions, then zeros into the leading parts of both stores.
 use Rattle.arrival.proofs.Asked.{stores-bounds}
 use Rattle.scan.proofs.States.{Begins, begins}
 use Rattle.scan.specs.Calls.{world, fresh, startAsks, startOf}
@@ -13,12 +14,6 @@ use mathlib.Core.Path.{_≡_, refl, sym, ap, ap₂, _∙_}
 use borrow.Author.Needs.{needs}
 use Rattle.scan.proofs.starts.start.Statement.{statement}
 use Rattle.scan.proofs.starts.start.Tie as tie
-use Rattle.scan.proofs.starts.start.Reads as reads
-use Rattle.scan.proofs.starts.start.Lts as lts
-use Rattle.scan.proofs.starts.wipe.Reads as wipe-reads
-use Rattle.scan.proofs.starts.begun.Reads as begun-reads
-use Rattle.scan.proofs.starts.start_asked.Reads as start-asked-reads
-use Rattle.scan.proofs.starts.wipe_sums.Reads as wipe-sums-reads
 
 abbrev start : tie.At-match-keys2 → tie.Start
 start c = c .before .before .before .before
@@ -26,59 +21,46 @@ start c = c .before .before .before .before
 accepted : (c : tie.After-enum-told2) → Begins (start (c .before) .args .t) (start (c .before) .args .width) (length (start (c .before) .args .samples .now)) (length (start (c .before) .args .sums .now))
 accepted c = begins _ _ _ _ (sym (c .before .before .start-asked .ensures) ∙ c .enum-told2 .given .1)
 
--- src/starts.rt:67:9
 start-asked-requires : tie.Need-start-asked-requires
 start-asked-requires c κs = search needs
 
--- src/starts.rt:71:19
 enum-told : tie.Need-enum-told
 enum-told c = search needs
 
--- src/starts.rt:71:19
 begun-requires : tie.Need-begun-requires
 begun-requires c κs = search needs
 
--- src/starts.rt:74:18
 enum-told-2 : tie.Need-enum-told-2
 enum-told-2 c = search needs
 
--- src/starts.rt:74:27
 mul-wipe : tie.Need-mul-wipe
 mul-wipe c = let w = width-bounds (accepted (c .before) .width) .1 in search (needs, w)
 
--- src/starts.rt:74:13
 wipe-requires : tie.Need-wipe-requires
 wipe-requires c κs = stores-bounds _ _ _ _ (accepted (c .before) .stores) .0
 
--- src/starts.rt:75:29
 mul-wipe-sums : tie.Need-mul-wipe-sums
 mul-wipe-sums c = let b = accepted (c .before .before .before .before .before .before) in
     let p = mul-le-mul (granted _ (b .table) .few) (width-bounds (b .width) .1) in search (needs, p)
 
--- src/starts.rt:75:13
 wipe-sums-requires : tie.Need-wipe-sums-requires
 wipe-sums-requires c κs = stores-bounds _ _ _ _ (accepted (c .before .before .before .before .before .before) .stores) .1
 
--- src/starts.rt:78:23
 begun-requires-2 : tie.Need-begun-requires-2
 begun-requires-2 c κs = search needs
 
--- src/starts.rt:61:1
 returns : tie.Need-returns
 unfolding startOf
 returns c = let a = c .before .before .before .before .before .before .args in
     let v = c .before .enum-told .given .1 in
     rw (first-verdict (startAsks (a .t) (a .width) (length (a .samples .now)) (length (a .sums .now))), sym (c .before .before .before .start-asked .ensures) ∙ v, v, c .begun .ensures) refl
 
--- src/starts.rt:61:1
 same-length : tie.Need-same-length
 same-length c = search needs
 
--- src/starts.rt:61:1
 same-length-2 : tie.Need-same-length-2
 same-length-2 c = search needs
 
--- src/starts.rt:61:1
 returns-2 : tie.Need-returns-2
 unfolding startOf
 returns-2 c = let w = c .before .before .before in

@@ -1,3 +1,4 @@
+-- The five tests of question 14 in order.
 use mathlib.Core.Path.{refl}
 use borrow.Author.Tests.{le-leb, lt-leb}
 use Rattle.arrival.proofs.Answered.{yes, no}
@@ -5,43 +6,31 @@ use Rattle.scan.specs.Calls.{agrees}
 use borrow.Author.Needs.{needs}
 use Rattle.scan.proofs.state.state_good.Statement.{statement}
 use Rattle.scan.proofs.state.state_good.Tie as tie
-use Rattle.scan.proofs.state.state_good.Reads as reads
-use Rattle.scan.proofs.state.state_good.Lts as lts
-use Rattle.layout.proofs.delay.Reads as delay-reads
-use Rattle.limits.proofs.accepted.Reads as accepted-reads
-use Rattle.rule.proofs.width_good.Reads as width-good-reads
 
--- src/state.rt:16:9
 accepted-requires : tie.Need-accepted-requires
 accepted-requires c κs = search needs
 
--- src/state.rt:17:9
 returns : tie.Need-returns
 unfolding agrees
 returns c = rw (no (c .before .accepted .ensures) (c .if1 .taken))
 
--- src/state.rt:19:9
 width-good-requires : tie.Need-width-good-requires
 width-good-requires c κs = search needs
 
--- src/state.rt:20:9
 returns-2 : tie.Need-returns-2
 unfolding agrees
 returns-2 c = let u = c .before .before in
     rw (yes (u .before .accepted .ensures) (u .if1 .left), no (c .before .width-good .ensures) (c .if2 .taken))
 
--- src/state.rt:23:9
 returns-3 : tie.Need-returns-3
 unfolding agrees
 returns-3 c = let w = c .before .before in
     let u = w .before .before in
     rw (yes (u .before .accepted .ensures) (u .if1 .left), yes (w .before .width-good .ensures) (w .if2 .left), lt-leb _ _ (c .if3 .taken))
 
--- src/state.rt:25:8
 delay-requires : tie.Need-delay-requires
 delay-requires c κs = search needs
 
--- src/state.rt:26:9
 returns-4 : tie.Need-returns-4
 unfolding agrees
 returns-4 c = let x = c .before .before .before in
@@ -54,7 +43,6 @@ returns-4 c = let x = c .before .before .before in
       lt-leb _ _ (rw (c .before .before .delay .ensures) at (c .if4 .taken)),
     )
 
--- src/state.rt:13:1
 returns-5 : tie.Need-returns-5
 unfolding agrees
 returns-5 c = let x = c .before .before .before .before in
@@ -68,7 +56,6 @@ returns-5 c = let x = c .before .before .before .before in
       c .if5 .taken,
     ) refl
 
--- src/state.rt:13:1
 returns-6 : tie.Need-returns-6
 unfolding agrees
 returns-6 c = let x = c .before .before .before .before .before in

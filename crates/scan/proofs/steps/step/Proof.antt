@@ -1,3 +1,4 @@
+-- Questions 14 and 15, done where D steps are past, question 13, then the arrival of a row of zeros.
 use Rattle.arith.specs.Tab.{tab}
 use Rattle.arith.proofs.Tabs.{length-tab}
 use Prim.Native.Nat.{ℕ, _-_, _≤_}
@@ -18,14 +19,6 @@ use mathlib.Core.Bool.{true, false, _&&_}
 use borrow.Author.Needs.{needs}
 use Rattle.scan.proofs.steps.step.Statement.{statement}
 use Rattle.scan.proofs.steps.step.Tie as tie
-use Rattle.scan.proofs.steps.step.Reads as reads
-use Rattle.scan.proofs.steps.step.Lts as lts
-use Rattle.layout.proofs.delay.Reads as delay-reads
-use Rattle.arrival.proofs.arrive.Reads as arrive-reads
-use Rattle.scan.proofs.state.lent_good.Reads as lent-good-reads
-use Rattle.scan.proofs.state.state_good.Reads as state-good-reads
-use Rattle.scan.proofs.steps.step_taken.Reads as step-taken-reads
-use Rattle.scan.proofs.steps.stopped.Reads as stopped-reads
 
 -- a step of a closed scan
 record Shut (c : tie.Else2) : Type 0 where
@@ -65,26 +58,21 @@ line c = zeros (start (c .before .before) .args .s .width) 1024 (narrow c)
 arrived : (c : tie.Else4) → Fits (closingOf (given (c .before .before))) (length (start (c .before .before) .args .out .now))
 arrived c = let p = c .before .before in arrives (given p) _ _ (shut (opened p) .state) (length-tab {A = ℕ} _ (λ k. 0)) (lent c)
 
--- src/steps.rt:54:9
 state-good-requires : tie.Need-state-good-requires
 state-good-requires c κs = search needs
 
--- src/steps.rt:55:9
 stopped-requires : tie.Need-stopped-requires
 stopped-requires c κs = search needs
 
--- src/steps.rt:55:9
 returns : tie.Need-returns
 returns c = let u = c .before .before in
     let a = u .before .before .before .args in
     let r = c .stopped .ensures in
     rw (step-by (world (a .s) (a .samples .now) (a .sums .now)) (a .out .now) (no (u .state-good .ensures) (c .before .if1 .taken)) refl refl refl, r .0, r .1) refl
 
--- src/steps.rt:58:9
 stopped-requires-2 : tie.Need-stopped-requires-2
 stopped-requires-2 c κs = search needs
 
--- src/steps.rt:58:9
 returns-2 : tie.Need-returns-2
 returns-2 c = let u = c .before .before .before in
     let a = u .before .before .before .before .args in
@@ -92,15 +80,12 @@ returns-2 c = let u = c .before .before .before in
     let r = c .stopped2 .ensures in
     rw (step-by (world (a .s) (a .samples .now) (a .sums .now)) (a .out .now) (yes (u .before .state-good .ensures) (u .if1 .left)) f refl refl, r .0, r .1) refl
 
--- src/steps.rt:61:8
 delay-requires : tie.Need-delay-requires
 delay-requires c κs = search needs
 
--- src/steps.rt:62:9
 stopped-requires-3 : tie.Need-stopped-requires-3
 stopped-requires-3 c κs = search needs
 
--- src/steps.rt:62:9
 returns-3 : tie.Need-returns-3
 returns-3 c = let d = c .before .before .before in
     let o = d .before .before in
@@ -109,72 +94,56 @@ returns-3 c = let d = c .before .before .before in
     let r = c .stopped3 .ensures in
     rw (step-by (world (a .s) (a .samples .now) (a .sums .now)) (a .out .now) (shut o .state) (shut o .closed) g refl, r .0, r .1) refl
 
--- src/steps.rt:65:9
 lent-good-requires : tie.Need-lent-good-requires
 lent-good-requires c κs = search needs
 
--- src/steps.rt:66:9
 stopped-requires-4 : tie.Need-stopped-requires-4
 stopped-requires-4 c κs = search needs
 
--- src/steps.rt:66:9
 returns-4 : tie.Need-returns-4
 returns-4 c = let p = c .before .before .before in
     let o = shut (opened p) in
     let r = c .stopped4 .ensures in
     rw (step-by (given p) (start p .args .out .now) (o .state) (o .closed) (past p) (no (c .before .before .lent-good .ensures) (c .before .if4 .taken)), r .0, r .1) refl
 
--- src/steps.rt:69:18
 add-number : tie.Need-add-number
 add-number c = let p = c .before .before .before in
     let n = counts (start p .args .s) (shut (opened p) .state) in search (needs, n .0, n .1)
 
--- src/steps.rt:69:23
 sub-arrive : tie.Need-sub-arrive
 sub-arrive c = search needs
 
--- src/steps.rt:69:23
 part-arrive-start : tie.Need-part-arrive-start
 part-arrive-start c = search needs
 
--- src/steps.rt:69:23
 part-arrive-end : tie.Need-part-arrive-end
 part-arrive-end c = let w = narrow (c .before .before) in search (needs, w)
 
--- src/steps.rt:69:9
 arrive-requires : tie.Need-arrive-requires
 arrive-requires c κs = let q = c .before .before .before .before .before .before in rw (line q) (arrived q)
 
--- src/steps.rt:71:26
 enum-known-v : tie.Need-enum-known-v
 enum-known-v c = search needs
 
--- src/steps.rt:71:44
 stopped-requires-5 : tie.Need-stopped-requires-5
 stopped-requires-5 c κs = search needs
 
--- src/steps.rt:72:30
 enum-told : tie.Need-enum-told
 enum-told c = search needs
 
--- src/steps.rt:72:30
 step-taken-requires : tie.Need-step-taken-requires
 step-taken-requires c κs = let p = c .before .before .before .before .before .before .before .before .before .before .before .before .before .before .before .before in
     counts (start p .args .s) (shut (opened p) .state)
 
--- src/steps.rt:47:1
 same-length : tie.Need-same-length
 same-length c = search needs
 
--- src/steps.rt:47:1
 same-length-2 : tie.Need-same-length-2
 same-length-2 c = search needs
 
--- src/steps.rt:47:1
 same-length-3 : tie.Need-same-length-3
 same-length-3 c = search needs
 
--- src/steps.rt:47:1
 returns-5 : tie.Need-returns-5
 returns-5 c = let m = c .before .before .before .before .before .before .before .before .before in
     let q = m .before .before .before .before .before .before .before in
@@ -184,19 +153,15 @@ returns-5 c = let m = c .before .before .before .before .before .before .before 
     let r = c .stopped5 .ensures in
     rw (r .0, r .1) (step-arrives _ _ (o .state) (o .closed) (past p) (lent q) e)
 
--- src/steps.rt:47:1
 same-length-4 : tie.Need-same-length-4
 same-length-4 c = search needs
 
--- src/steps.rt:47:1
 same-length-5 : tie.Need-same-length-5
 same-length-5 c = search needs
 
--- src/steps.rt:47:1
 same-length-6 : tie.Need-same-length-6
 same-length-6 c = search needs
 
--- src/steps.rt:47:1
 returns-6 : tie.Need-returns-6
 returns-6 c = let m = c .before .before .before .before .before .before .before .before in
     let q = m .before .before .before .before .before .before .before in

@@ -1,31 +1,24 @@
+-- Row a - D is out from arrival D on; the numbers of a state that agrees are small.
 use Rattle.scan.specs.Calls.{dueSaid}
 use borrow.Author.Tests.{lt-ltb, le-ltb}
 use mathlib.Core.Path.{refl, sym, ap, _∙_}
 use borrow.Author.Needs.{needs}
 use Rattle.scan.proofs.steps.step_taken.Statement.{statement}
 use Rattle.scan.proofs.steps.step_taken.Tie as tie
-use Rattle.scan.proofs.steps.step_taken.Reads as reads
-use Rattle.scan.proofs.steps.step_taken.Lts as lts
-use Rattle.layout.proofs.delay.Reads as delay-reads
 
--- src/steps.rt:29:13
 add-a : tie.Need-add-a
 add-a c = search needs
 
--- src/steps.rt:30:9
 delay-requires : tie.Need-delay-requires
 delay-requires c κs = search needs
 
--- src/steps.rt:32:19
 add-after : tie.Need-add-after
 add-after c = search needs
 
--- src/steps.rt:34:9
 returns : tie.Need-returns
 unfolding dueSaid
 returns c = (rw (lt-ltb _ _ (rw (c .before .before .delay .ensures) at (c .if1 .taken))) refl, refl)
 
--- src/steps.rt:24:1
 returns-2 : tie.Need-returns-2
 unfolding dueSaid
 returns-2 c = let e = c .before .before .delay .ensures in

@@ -1,3 +1,4 @@
+-- The fields are read one after the other; the invariant is that what is left of the file, read from here, comes to the whole.
 use Rattle.table.specs.Format.{loaded}
 use Rattle.layout.specs.Answers.{said, verdict}
 use Rattle.layout.proofs.Questions.{onVerdict}
@@ -30,11 +31,6 @@ use Prim.Native.Nat.{ℕ, suc, _+_, _-_, _≤_, _<_}
 use borrow.Author.Needs.{needs}
 use Rattle.table.proofs.loading.fields.Statement.{statement}
 use Rattle.table.proofs.loading.fields.Tie as tie
-use Rattle.table.proofs.loading.fields.Reads as reads
-use Rattle.table.proofs.loading.fields.Lts as lts
-use Rattle.table.proofs.loading.refused.Reads as refused-reads
-use Rattle.table.proofs.reading.field.Reads as field-reads
-use Rattle.table.proofs.reading.rect_of.Reads as rect-of-reads
 
 abbrev Inv-loop : tie.InvT-loop
 Inv-loop bytes t₀ at₀ t at = (t ≡ tableOf (contents t)) × (t .count ≤ 16) × (at ≤ length bytes)
@@ -84,7 +80,6 @@ module _ (bs : List ℕ) (t : Table) (at : ℕ) (inv : Inv-loop bs t at t at) (f
             ∙ inv .3,
       )
 
--- src/loading.rt:68:5
 loop-holds : tie.Need-loop-holds Inv-loop μ-loop
 unfolding tab
 loop-holds c =
@@ -92,11 +87,9 @@ loop-holds c =
     let bs = now (c .before .args .bytes) in
     rw e (refl, search needs, c .before .pre .0, refl)
 
--- src/loading.rt:71:13
 refused-requires : tie.Need-refused-requires Inv-loop μ-loop
 refused-requires c κs = search needs
 
--- src/loading.rt:71:13
 returns : tie.Need-returns Inv-loop μ-loop
 returns c =
     let s = c .before .before .before in
@@ -107,31 +100,24 @@ returns c =
     let e = sym (i .3) ∙ ap (λ n. fieldsOf n (drop (s .loop .at) bs) (contents (s .loop .t))) z ∙ fields-full _ _ (omega arith) in
     ended bs 6 0 _ _ e (c .refused .ensures .0) (c .refused .ensures .1)
 
--- src/loading.rt:73:20
 sub-rest : tie.Need-sub-rest Inv-loop μ-loop
 sub-rest c = search needs
 
--- src/loading.rt:73:20
 part-rest-start : tie.Need-part-rest-start Inv-loop μ-loop
 part-rest-start c = search needs
 
--- src/loading.rt:73:20
 part-rest-end : tie.Need-part-rest-end Inv-loop μ-loop
 part-rest-end c = search needs
 
--- src/loading.rt:74:13
 field-requires : tie.Need-field-requires Inv-loop μ-loop
 field-requires c κs = search needs
 
--- src/loading.rt:76:30
 enum-known-v : tie.Need-enum-known-v Inv-loop μ-loop
 enum-known-v c = search needs
 
--- src/loading.rt:76:48
 refused-requires-2 : tie.Need-refused-requires-2 Inv-loop μ-loop
 refused-requires-2 c κs = search needs
 
--- src/loading.rt:76:48
 returns-2 : tie.Need-returns-2 Inv-loop μ-loop
 returns-2 c =
     let s = c .before .before .before .before .before .before .before .before in
@@ -149,7 +135,6 @@ returns-2 c =
 enum-told : tie.Need-enum-told Inv-loop μ-loop
 enum-told c = search needs
 
--- src/loading.rt:79:26
 rect-of-requires : tie.Need-rect-of-requires Inv-loop μ-loop
 rect-of-requires c κs =
     let s = c .before .before .before .before .before .before in
@@ -157,23 +142,18 @@ rect-of-requires c κs =
     let f = rw (tail-is (s .loop .at) bs) at (c .before .before .field .ensures) in
     rw (tail-is (s .loop .at) bs) (field-accepted _ (sym f ∙ c .enum-told .given .1) .whole)
 
--- src/loading.rt:79:9
 mul-t10 : tie.Need-mul-t10 Inv-loop μ-loop
 mul-t10 c = search needs
 
--- src/loading.rt:79:9
 element-set-from-t : tie.Need-element-set-from-t Inv-loop μ-loop
 element-set-from-t c = search needs
 
--- src/loading.rt:80:19
 add-t : tie.Need-add-t Inv-loop μ-loop
 add-t c = search needs
 
--- src/loading.rt:81:9
 add-at : tie.Need-add-at Inv-loop μ-loop
 add-at c = search needs
 
--- src/loading.rt:68:5
 loop-less : tie.Need-loop-less Inv-loop μ-loop
 loop-less c =
     let s = c .before .before .before .before .before .before .before in
@@ -183,7 +163,6 @@ loop-less c =
     let d = length-drop (s .loop .at) bs in
     omega arith
 
--- src/loading.rt:68:5
 loop-again : tie.Need-loop-again Inv-loop μ-loop
 loop-again c =
     let s = c .before .before .before .before .before .before .before in
@@ -192,11 +171,9 @@ loop-again c =
     let r = rw (tail-is (s .loop .at) bs) at (c .rect-of .ensures) in
     rw r (next-inv bs (s .loop .t) (s .loop .at) (s .loop .inv) (omega arith) (omega arith) (sym f ∙ c .before .enum-told .given .1))
 
--- src/loading.rt:84:9
 refused-requires-3 : tie.Need-refused-requires-3 Inv-loop μ-loop
 refused-requires-3 c κs = search needs
 
--- src/loading.rt:84:9
 returns-3 : tie.Need-returns-3 Inv-loop μ-loop
 returns-3 c =
     let s = c .before .before .before in
@@ -208,7 +185,6 @@ returns-3 c =
     let n = lt-leb 1 (length (contents (s .loop .t) .rects)) (omega arith) in
     ended bs 9 0 _ _ (e ∙ ap (λ b. cond b (loaded (contents (s .loop .t))) (refused 9 0)) n) (c .refused3 .ensures .0) (c .refused3 .ensures .1)
 
--- src/loading.rt:60:1
 returns-4 : tie.Need-returns-4 Inv-loop μ-loop
 returns-4 c =
     let s = c .before .before in

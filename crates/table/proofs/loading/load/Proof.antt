@@ -1,3 +1,4 @@
+-- Question 10 on what questions 1 to 9 let through.
 use Rattle.table.proofs.Sound.{refused-from, loaded-from, parse-sound}
 use Rattle.table.proofs.Structs.{contents-tableOf}
 use Rattle.table.specs.Format.{refused, loaded, parseOf, fitOf, loadOf, handed, handedOut, tableFrom}
@@ -16,11 +17,6 @@ use mathlib.Core.Path.{_≡_, sym, ap, ap₂, _∙_}
 use borrow.Author.Needs.{needs}
 use Rattle.table.proofs.loading.load.Statement.{statement}
 use Rattle.table.proofs.loading.load.Tie as tie
-use Rattle.table.proofs.loading.load.Reads as reads
-use Rattle.table.proofs.loading.load.Lts as lts
-use Rattle.limits.proofs.value_good.Reads as value-good-reads
-use Rattle.table.proofs.loading.parse.Reads as parse-reads
-use Rattle.table.proofs.loading.refused.Reads as refused-reads
 
 -- questions 1 to 9 were answered yes: the struct t holds the table c that was read, and what is left of question 10 is its own test
 record Read (bs : List ℕ) (t : Table) : Type 0 where
@@ -52,34 +48,27 @@ load-is : (bs : List ℕ) (c : Contents) (b : Bool) → parseOf bs ≡ loaded c 
 unfolding loadOf
 load-is bs c b e g = ap fitOf e ∙ ap (λ x. cond x (loaded c) (refused 10 0)) g
 
--- src/loading.rt:109:9
 parse-requires : tie.Need-parse-requires
 parse-requires c κs = search needs
 
--- src/loading.rt:112:35
 enum-told : tie.Need-enum-told
 enum-told c = search needs
 
--- src/loading.rt:114:17
 enum-told-2 : tie.Need-enum-told-2
 enum-told-2 c = search needs
 
--- src/loading.rt:115:16
 value-good-requires : tie.Need-value-good-requires
 value-good-requires c κs = search needs
 
--- src/loading.rt:115:46
 refused-requires : tie.Need-refused-requires
 refused-requires c κs = search needs
 
--- src/loading.rt:105:1
 returns : tie.Need-returns
 returns c =
     let r = c .before .before .parse .ensures in
     let p = refused-from (parseOf _) _ _ (sym (ap (λ h. h .said) r) ∙ ap said (c .enum-told .given .1)) in
     r ∙ ap handedOut (p ∙ sym (refused-load _ p))
 
--- src/loading.rt:105:1
 returns-2 : tie.Need-returns-2
 returns-2 c =
     let s = c .before .before .before .before .before in
@@ -87,7 +76,6 @@ returns-2 c =
     let l = load-is _ (p .c) true (p .is) (sym (p .fits) ∙ sym (c .before .value-good .ensures) ∙ c .if1 .taken) in
     ap₂ handed (ap said (c .before .before .before .enum-told2 .given .1)) (p .held) ∙ sym (ap handedOut l)
 
--- src/loading.rt:105:1
 returns-3 : tie.Need-returns-3
 returns-3 c =
     let s = c .before .before .before .before .before .before in

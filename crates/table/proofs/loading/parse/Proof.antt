@@ -1,3 +1,4 @@
+-- The header's questions, then the fields.
 use Rattle.table.proofs.Asked.{header-accepted}
 use Rattle.layout.specs.declared.Verdict.{Verdict}
 use Rattle.layout.specs.Answers.{said, verdict}
@@ -11,47 +12,33 @@ use mathlib.Core.Path.{_≡_, sym, ap, ap₂, _∙_}
 use borrow.Author.Needs.{needs}
 use Rattle.table.proofs.loading.parse.Statement.{statement}
 use Rattle.table.proofs.loading.parse.Tie as tie
-use Rattle.table.proofs.loading.parse.Reads as reads
-use Rattle.table.proofs.loading.parse.Lts as lts
-use Rattle.table.proofs.loading.fields.Reads as fields-reads
-use Rattle.table.proofs.loading.head_of.Reads as head-of-reads
-use Rattle.table.proofs.loading.refused.Reads as refused-reads
-use Rattle.table.proofs.reading.header.Reads as header-reads
 
 parse-is : (bs : List ℕ) {v : Verdict} → verdict (headerAsks bs) ≡ v → parseOf bs ≡ onVerdict v refused (fieldsOf 16 (drop 9 bs) (headOf bs))
 parse-is bs e = parse-step bs ∙ ap (λ v. onVerdict v refused (fieldsOf 16 (drop 9 bs) (headOf bs))) e
 
--- src/loading.rt:97:9
 header-requires : tie.Need-header-requires
 header-requires c κs = search needs
 
--- src/loading.rt:99:26
 enum-known-v : tie.Need-enum-known-v
 enum-known-v c = search needs
 
--- src/loading.rt:99:44
 refused-requires : tie.Need-refused-requires
 refused-requires c κs = search needs
 
--- src/loading.rt:100:44
 enum-told : tie.Need-enum-told
 enum-told c = search needs
 
--- src/loading.rt:100:44
 head-of-requires : tie.Need-head-of-requires
 head-of-requires c κs = header-accepted _ (sym (c .before .before .header .ensures) ∙ c .enum-told .given .1) .whole
 
--- src/loading.rt:100:30
 fields-requires : tie.Need-fields-requires
 fields-requires c κs = (header-accepted _ (sym (c .before .before .before .header .ensures) ∙ c .before .enum-told .given .1) .whole, c .head-of .ensures)
 
--- src/loading.rt:93:1
 returns : tie.Need-returns
 returns c =
     let e = parse-is _ (sym (c .before .before .before .before .header .ensures) ∙ c .before .before .v .given .1) in
     rw e (ap₂ handed (ap said (c .refused .ensures .0)) (c .refused .ensures .1))
 
--- src/loading.rt:93:1
 returns-2 : tie.Need-returns-2
 returns-2 c =
     let e = parse-is _ (sym (c .before .before .before .before .header .ensures) ∙ c .before .before .enum-told .given .1) in

@@ -1,3 +1,4 @@
+-- Questions 7, 2 and 8 in order.
 use Rattle.limits.specs.Limits.{rectGood}
 use Rattle.table.specs.Format.{fieldAsks}
 use mathlib.Core.Path.{sym, _∙_, ap}
@@ -5,35 +6,24 @@ use borrow.Author.Tests.{le-leb, lt-leb, not-true, not-false}
 use borrow.Author.Needs.{needs}
 use Rattle.table.proofs.reading.field.Statement.{statement}
 use Rattle.table.proofs.reading.field.Tie as tie
-use Rattle.table.proofs.reading.field.Reads as reads
-use Rattle.table.proofs.reading.field.Lts as lts
-use Rattle.limits.proofs.rect_good.Reads as rect-good-reads
-use Rattle.table.proofs.reading.rect_of.Reads as rect-of-reads
-use Rattle.table.proofs.reading.starts.Reads as starts-reads
 
--- src/reading.rt:46:9
 starts-requires : tie.Need-starts-requires
 starts-requires c κs = search needs
 
--- src/reading.rt:47:9
 returns : tie.Need-returns
 unfolding fieldAsks
 returns c = rw (sym (c .before .starts .ensures) ∙ not-true _ (c .if1 .taken))
 
--- src/reading.rt:50:9
 returns-2 : tie.Need-returns-2
 unfolding fieldAsks
 returns-2 c = rw (sym (c .before .before .starts .ensures) ∙ not-false _ (c .before .if1 .left), lt-leb _ _ (c .if2 .taken))
 
--- src/reading.rt:52:19
 rect-of-requires : tie.Need-rect-of-requires
 rect-of-requires c κs = search needs
 
--- src/reading.rt:52:9
 rect-good-requires : tie.Need-rect-good-requires
 rect-good-requires c κs = search needs
 
--- src/reading.rt:53:9
 returns-3 : tie.Need-returns-3
 unfolding fieldAsks
 returns-3 c =
@@ -44,7 +34,6 @@ returns-3 c =
       sym (c .before .rect-good .ensures .0 ∙ ap rectGood (c .before .before .rect-of .ensures)) ∙ not-true _ (c .if3 .taken),
     )
 
--- src/reading.rt:43:1
 returns-4 : tie.Need-returns-4
 unfolding fieldAsks
 returns-4 c =

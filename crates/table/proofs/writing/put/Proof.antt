@@ -1,3 +1,4 @@
+-- The header, then the rectangles one after the other; the invariant is the file so far and beyond it what was there.
 use denote.Ref.{now}
 use lib.ListN.{length-drop}
 use Rattle.table.proofs.Encoded.{length-head, length-rects, rects-snoc}
@@ -19,10 +20,6 @@ use Prim.Native.Nat.{ℕ, _+_, _*_, _-_, _≤_}
 use borrow.Author.Needs.{needs}
 use Rattle.table.proofs.writing.put.Statement.{statement}
 use Rattle.table.proofs.writing.put.Tie as tie
-use Rattle.table.proofs.writing.put.Reads as reads
-use Rattle.table.proofs.writing.put.Lts as lts
-use Rattle.table.proofs.writing.put_head.Reads as put-head-reads
-use Rattle.table.proofs.writing.put_rect.Reads as put-rect-reads
 
 abbrev Inv-loop : tie.InvT-loop
 Inv-loop out₀ t count k₀ out k =
@@ -75,11 +72,9 @@ whole t out =
       sym (drop-drop (9 * t .count) 9 (h ++ drop 9 out)) ∙ ap (drop (9 * t .count)) (drop-at h (drop 9 out) 9 n) ∙ drop-drop (9 * t .count) 9 out,
     )
 
--- src/writing.rt:60:5
 put-head-requires : tie.Need-put-head-requires Inv-loop μ-loop
 put-head-requires c κs = search needs
 
--- src/writing.rt:63:5
 loop-holds : tie.Need-loop-holds Inv-loop μ-loop
 unfolding tab encodeRects
 loop-holds c =
@@ -88,35 +83,27 @@ loop-holds c =
     let p = c .before .before .before .before .before .pre .1 in
     (search needs, sym (ap (λ l. l ++ drop 9 o) (append-nil (take 9 o)) ∙ take-append-drop 9 o), refl, omega arith)
 
--- src/writing.rt:64:17
 mul-r : tie.Need-mul-r Inv-loop μ-loop
 mul-r c = search needs
 
--- src/writing.rt:64:17
 element-copy-out-r : tie.Need-element-copy-out-r Inv-loop μ-loop
 element-copy-out-r c = search needs
 
--- src/writing.rt:65:22
 mul-at : tie.Need-mul-at Inv-loop μ-loop
 mul-at c = search needs
 
--- src/writing.rt:65:18
 add-at : tie.Need-add-at Inv-loop μ-loop
 add-at c = search needs
 
--- src/writing.rt:66:18
 sub-put-rect : tie.Need-sub-put-rect Inv-loop μ-loop
 sub-put-rect c = let i = c .before .before .loop .inv in omega arith
 
--- src/writing.rt:66:18
 part-put-rect-start : tie.Need-part-put-rect-start Inv-loop μ-loop
 part-put-rect-start c = let i = c .before .before .loop .inv in omega arith
 
--- src/writing.rt:66:18
 part-put-rect-end : tie.Need-part-put-rect-end Inv-loop μ-loop
 part-put-rect-end c = search needs
 
--- src/writing.rt:66:9
 put-rect-requires : tie.Need-put-rect-requires Inv-loop μ-loop
 put-rect-requires c κs =
     let s = c .before .before .before in
@@ -124,15 +111,12 @@ put-rect-requires c κs =
     let i = s .loop .inv in
     rw tail-is (omega arith)
 
--- src/writing.rt:67:9
 add-k : tie.Need-add-k Inv-loop μ-loop
 add-k c = search needs
 
--- src/writing.rt:63:5
 loop-less : tie.Need-loop-less Inv-loop μ-loop
 loop-less c = omega arith
 
--- src/writing.rt:63:5
 loop-again : tie.Need-loop-again Inv-loop μ-loop
 unfolding front
 loop-again c =
@@ -149,14 +133,12 @@ loop-again c =
     let d = length-drop (9 + 9 * (k + 1)) out₀ in
     (omega arith, e, ap length e ∙ omega arith, i .3)
 
--- src/writing.rt:55:1
 same-length : tie.Need-same-length Inv-loop μ-loop
 same-length c =
     let h = c .before .before .before .before .put-head .kept .0 in
     let i = c .before .loop .inv .2 in
     i ∙ h
 
--- src/writing.rt:55:1
 returns : tie.Need-returns Inv-loop μ-loop
 returns c =
     let s = c .before .before .before .before in

@@ -1,3 +1,4 @@
+-- Nine stores leave the header's field and beyond it what was there.
 use Rattle.table.specs.Format.{encodeHead}
 use denote.Ref.{now}
 use mathlib.Core.List.{[], _∷_}
@@ -7,50 +8,37 @@ use native.Mathlib.Omega.{arith}
 use borrow.Author.Needs.{needs}
 use Rattle.table.proofs.writing.put_head.Statement.{statement}
 use Rattle.table.proofs.writing.put_head.Tie as tie
-use Rattle.table.proofs.writing.put_head.Reads as reads
-use Rattle.table.proofs.writing.put_head.Lts as lts
 
--- src/writing.rt:26:5
 slice-write-out : tie.Need-slice-write-out
 slice-write-out c = search needs
 
--- src/writing.rt:27:5
 slice-write-out-2 : tie.Need-slice-write-out-2
 slice-write-out-2 c = simp length-set (omega arith)
 
--- src/writing.rt:28:5
 slice-write-out-3 : tie.Need-slice-write-out-3
 slice-write-out-3 c = simp length-set (omega arith)
 
--- src/writing.rt:29:5
 slice-write-out-4 : tie.Need-slice-write-out-4
 slice-write-out-4 c = simp length-set (omega arith)
 
--- src/writing.rt:30:5
 slice-write-out-5 : tie.Need-slice-write-out-5
 slice-write-out-5 c = simp length-set (omega arith)
 
--- src/writing.rt:31:5
 slice-write-out-6 : tie.Need-slice-write-out-6
 slice-write-out-6 c = simp length-set (omega arith)
 
--- src/writing.rt:32:5
 slice-write-out-7 : tie.Need-slice-write-out-7
 slice-write-out-7 c = simp length-set (omega arith)
 
--- src/writing.rt:33:5
 slice-write-out-8 : tie.Need-slice-write-out-8
 slice-write-out-8 c = simp length-set (omega arith)
 
--- src/writing.rt:34:5
 slice-write-out-9 : tie.Need-slice-write-out-9
 slice-write-out-9 c = simp length-set (omega arith)
 
--- src/writing.rt:22:1
 same-length : tie.Need-same-length
 same-length c = simp length-set
 
--- src/writing.rt:22:1
 returns : tie.Need-returns
 unfolding encodeHead
 returns c =

@@ -1,3 +1,4 @@
+-- Nine stores leave the rectangle's field and beyond it what was there.
 use Rattle.table.specs.Format.{encodeRect}
 use Rattle.arith.specs.Twos.{unsigned}
 use denote.Ref.{now}
@@ -12,80 +13,58 @@ use native.Mathlib.Omega.{arith}
 use borrow.Author.Needs.{needs}
 use Rattle.table.proofs.writing.put_rect.Statement.{statement}
 use Rattle.table.proofs.writing.put_rect.Tie as tie
-use Rattle.table.proofs.writing.put_rect.Reads as reads
-use Rattle.table.proofs.writing.put_rect.Lts as lts
-use Rattle.arith.proofs.byte_of.Reads as byte-of-reads
-use Rattle.arith.proofs.word_of.Reads as word-of-reads
 
--- src/writing.rt:42:9
 word-of-requires : tie.Need-word-of-requires
 word-of-requires c κs = search needs
 
--- src/writing.rt:43:5
 slice-write-out : tie.Need-slice-write-out
 slice-write-out c = search needs
 
--- src/writing.rt:44:5
 slice-write-out-2 : tie.Need-slice-write-out-2
 slice-write-out-2 c = simp length-set (omega arith)
 
--- src/writing.rt:45:5
 slice-write-out-3 : tie.Need-slice-write-out-3
 slice-write-out-3 c = simp length-set (omega arith)
 
--- src/writing.rt:46:14
 byte-of-requires : tie.Need-byte-of-requires
 byte-of-requires c κs = search needs
 
--- src/writing.rt:46:5
 slice-write-out-4 : tie.Need-slice-write-out-4
 slice-write-out-4 c = simp length-set (omega arith)
 
--- src/writing.rt:47:14
 byte-of-requires-2 : tie.Need-byte-of-requires-2
 byte-of-requires-2 c κs = search needs
 
--- src/writing.rt:47:5
 slice-write-out-5 : tie.Need-slice-write-out-5
 slice-write-out-5 c = simp length-set (omega arith)
 
--- src/writing.rt:48:14
 byte-of-requires-3 : tie.Need-byte-of-requires-3
 byte-of-requires-3 c κs = search needs
 
--- src/writing.rt:48:5
 slice-write-out-6 : tie.Need-slice-write-out-6
 slice-write-out-6 c = simp length-set (omega arith)
 
--- src/writing.rt:49:14
 byte-of-requires-4 : tie.Need-byte-of-requires-4
 byte-of-requires-4 c κs = search needs
 
--- src/writing.rt:49:5
 slice-write-out-7 : tie.Need-slice-write-out-7
 slice-write-out-7 c = simp length-set (omega arith)
 
--- src/writing.rt:50:14
 cast-out : tie.Need-cast-out
 cast-out c = search needs
 
--- src/writing.rt:50:5
 slice-write-out-8 : tie.Need-slice-write-out-8
 slice-write-out-8 c = simp length-set (omega arith)
 
--- src/writing.rt:51:14
 cast-out-2 : tie.Need-cast-out-2
 cast-out-2 c = search needs
 
--- src/writing.rt:51:5
 slice-write-out-9 : tie.Need-slice-write-out-9
 slice-write-out-9 c = simp length-set (omega arith)
 
--- src/writing.rt:38:1
 same-length : tie.Need-same-length
 same-length c = simp length-set
 
--- src/writing.rt:38:1
 returns : tie.Need-returns
 unfolding encodeRect
 returns c =

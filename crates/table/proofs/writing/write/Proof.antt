@@ -1,3 +1,4 @@
+-- Questions 11 and 13, then the file; its length is 9 + 9·(rectangles).
 use Rattle.limits.proofs.Granted.{granted}
 use Rattle.layout.specs.Answers.{accepted}
 use Rattle.table.specs.Writing.{fileLength, wrote, writeOf}
@@ -9,31 +10,22 @@ use native.Mathlib.Omega.{arith}
 use borrow.Author.Needs.{needs}
 use Rattle.table.proofs.writing.write.Statement.{statement}
 use Rattle.table.proofs.writing.write.Tie as tie
-use Rattle.table.proofs.writing.write.Reads as reads
-use Rattle.table.proofs.writing.write.Lts as lts
-use Rattle.limits.proofs.accepted.Reads as accepted-reads
-use Rattle.table.proofs.writing.put.Reads as put-reads
 
--- src/writing.rt:76:9
 accepted-requires : tie.Need-accepted-requires
 accepted-requires c κs = search needs
 
--- src/writing.rt:77:9
 returns : tie.Need-returns
 unfolding writeOf
 returns c =
     let e = sym (c .before .accepted .ensures) ∙ not-true _ (c .if1 .taken) in
     rw e
 
--- src/writing.rt:80:17
 mul-n : tie.Need-mul-n
 mul-n c = let g = granted _ (sym (c .before .accepted .ensures) ∙ not-false _ (c .if1 .left)) .few in omega arith
 
--- src/writing.rt:80:13
 add-n : tie.Need-add-n
 add-n c = let g = granted _ (sym (c .before .accepted .ensures) ∙ not-false _ (c .if1 .left)) .few in omega arith
 
--- src/writing.rt:82:9
 returns-2 : tie.Need-returns-2
 unfolding writeOf
 returns-2 c =
@@ -41,17 +33,14 @@ returns-2 c =
     let n = lt-leb _ _ (c .if2 .taken) in
     rw (e, n)
 
--- src/writing.rt:84:5
 put-requires : tie.Need-put-requires
 put-requires c κs =
     let g = granted _ (sym (c .before .before .before .accepted .ensures) ∙ not-false _ (c .before .before .if1 .left)) in
     (g .few, c .before .if2 .left)
 
--- src/writing.rt:72:1
 same-length : tie.Need-same-length
 same-length c = search needs
 
--- src/writing.rt:72:1
 returns-3 : tie.Need-returns-3
 unfolding writeOf
 returns-3 c =
