@@ -90,11 +90,14 @@ module _ (m : Machine) (samples sums : List ℕ) (f : Fair m) (st : Holds m samp
       rw state-good
       (same-questions Agree (asks 15 (not (m .closed)) ∷ []) (halt []) (left (accepted []) (world (shut (stateOf m)) samples sums) [])
       (halts []) (left (accepted []) (machine (m .table) (m .width) (m .rows) (m .steps) true) []) (λ n p. (refl, follows))
-      (λ y. (refl, record {
-        fair = record { table = f .table; width = f .width; good = f .good; few = f .few; most = f .most; unstepped = refl };
-        scan = refl;
-        stores = st;
-      })))
+      (λ y. (
+        refl,
+        record {
+          fair = record { table = f .table; width = f .width; good = f .good; few = f .few; most = f .most; unstepped = refl };
+          scan = refl;
+          stores = st;
+        },
+      )))
 
   -- an arrival of x with these stores
   module _ (x : Scan) (row : List ℕ) (out : List ℤ) (lies : Lies (m .width) (m .table .b) x)
