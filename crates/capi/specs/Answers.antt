@@ -1,26 +1,17 @@
--- What C is handed: the answer of each call as the struct of the header.
+-- What C is handed: each struct of the header from what a call says and leaves.
 -- Assumes nothing.
 use Prim.Native.Nat.{ℕ}
+use mathlib.Core.Bool.{cond}
 use mathlib.Core.List.{List}
-use lib.IntN.{pos}
-use Rattle.layout.specs.declared.Table.{Table}
-use Rattle.layout.specs.declared.Verdict.{Verdict}
-use Rattle.layout.specs.declared.Verdict.the-variants.{Accepted, Refused}
-use Rattle.table.specs.declared.writing.Written.{Written}
-use Rattle.table.specs.declared.writing.Written.the-variants.{Length, Refused as NotWritten}
-use Rattle.table.specs.Format.{loadOf, verdictOf, tableFrom}
-use Rattle.table.specs.Writing.{writtenOf}
+use lib.Dec.{eqb}
+use lib.ListN.{getD}
+use lib.IntN.{ℤ, pos}
+use Rattle.arith.specs.Part.{posPart}
+use Rattle.layout.specs.Answers.{Said, Left}
+use Rattle.table.specs.Format.{Handed as Loading}
+use Rattle.table.specs.Writing.{Wrote}
 use Rattle.scan.specs.declared.Scan.{Scan}
-use Rattle.scan.specs.declared.Answer.{Answer}
-use Rattle.scan.specs.declared.Answer.the-variants.{Row, Waiting, Refused as RowRefused}
-use Rattle.scan.specs.declared.Closing.{Closing}
-use Rattle.scan.specs.declared.Closing.the-variants.{Row as LateRow, Waiting as StillWaiting, Done, Refused as StepRefused}
-use Rattle.arrival.specs.Arrivals.{by}
-use Rattle.scan.specs.Calls.{byTurn, startSays, startScan, closeSays, shut, rowSays, rowAnswer, rowIn, stepTurn, stepAnswer, stepIn}
-use Rattle.burst.specs.Bursts.{Outcome}
-use Rattle.pixel.specs.declared.Found.{Found}
-use Rattle.pixel.specs.declared.Found.the-variants.{Pixel, Refused as NoPixel}
-use Rattle.pixel.specs.Call.{pixelAnswer}
+use Rattle.scan.specs.Calls.{World}
 use Rattle.capi.specs.declared.tables.TableLoaded.{TableLoaded}
 use Rattle.capi.specs.declared.tables.TableWritten.{TableWritten}
 use Rattle.capi.specs.declared.scans.ScanStarted.{ScanStarted}
@@ -28,77 +19,61 @@ use Rattle.capi.specs.declared.scans.ScanAnswer.{ScanAnswer}
 use Rattle.capi.specs.declared.bursts.BurstAnswer.{BurstAnswer}
 use Rattle.capi.specs.declared.pixels.PixelAnswer.{PixelAnswer}
 
--- ---- each answer as C has it: refusal 0 and place 0 where the call accepted
+-- ---- an answer, from what a call says
 
--- a verdict on a file, and the table beside it
-abbrev pub loadedC : Verdict → Table → TableLoaded
-loadedC Accepted t = record { refusal = 0; place = 0; table = t }
-loadedC (Refused number place) t = record { refusal = number; place = place; table = t }
+-- its value k, 0 where it says none; and that as a natural number
+abbrev pub value : Said → (k : ℕ) → ℤ
+value s k = getD (s .values) k (pos 0)
 
--- a file written, with its length; length 0 beside a refusal
-abbrev pub writtenC : Written → TableWritten
-writtenC (Length n) = record { refusal = 0; place = 0; length = n }
-writtenC (NotWritten number place) = record { refusal = number; place = place; length = 0 }
+abbrev pub amount : Said → (k : ℕ) → ℕ
+amount s k = posPart (value s k)
 
--- a verdict on starting or closing, and the scan beside it
-abbrev pub startedC : Verdict → Scan → ScanStarted
-startedC Accepted s = record { refusal = 0; place = 0; scan = s }
-startedC (Refused number place) s = record { refusal = number; place = place; scan = s }
+-- a file that was loaded, and its table
+abbrev pub loadedC : Loading → TableLoaded
+loadedC x = record { refusal = x .said .number; place = x .said .place; table = x .table }
 
--- a row's answer: kind 1 with the number of the filtered row, 2 waiting, or 0 with the number and the place of the refusal
-abbrev pub rowC : Answer → Scan → ScanAnswer
-rowC (Row r) s = record { kind = 1; number = r; place = 0; scan = s }
-rowC Waiting s = record { kind = 2; number = 0; place = 0; scan = s }
-rowC (RowRefused number place) s = record { kind = 0; number = number; place = place; scan = s }
+-- a file that was written, with its length
+abbrev pub writtenC : Said → TableWritten
+writtenC s = record { refusal = s .number; place = s .place; length = amount s 0 }
 
--- a closing step's answer: the same, or kind 3 where all rows are out
-abbrev pub stepC : Closing → Scan → ScanAnswer
-stepC (LateRow r) s = record { kind = 1; number = r; place = 0; scan = s }
-stepC StillWaiting s = record { kind = 2; number = 0; place = 0; scan = s }
-stepC Done s = record { kind = 3; number = 0; place = 0; scan = s }
-stepC (StepRefused number place) s = record { kind = 0; number = number; place = place; scan = s }
+-- a pixel
+abbrev pub pixelC : Said → PixelAnswer
+pixelC s = record { refusal = s .number; place = s .place; value = value s 0 }
 
--- a burst: the rows taken and the filtered rows that came out, and the refusal of the row where it stops
-abbrev pub burstC : Verdict → (taken filtered : ℕ) → Scan → BurstAnswer
-burstC Accepted taken filtered s = record { refusal = 0; place = 0; taken = taken; filtered = filtered; scan = s }
-burstC (Refused number place) taken filtered s = record { refusal = number; place = place; taken = taken; filtered = filtered; scan = s }
+-- a start or a close, and the scan after it
+abbrev pub startedC : Said → Scan → ScanStarted
+startedC s scan = record { refusal = s .number; place = s .place; scan = scan }
 
--- a pixel; value 0 beside a refusal
-abbrev pub pixelC : Found → PixelAnswer
-pixelC (Pixel p) = record { refusal = 0; place = 0; value = p }
-pixelC (NoPixel number place) = record { refusal = number; place = place; value = pos 0 }
+-- a row or a closing step, and the scan after it: a filtered row has its own number where a refusal has the question's
+abbrev pub answerC : Said → Scan → ScanAnswer
+answerC s scan = record { kind = s .kind; number = cond (eqb (s .kind) 1) (amount s 0) (s .number); place = s .place; scan = scan }
 
--- ---- what each call hands out
+-- a burst, with the rows taken and the filtered rows that came out, and the scan after it
+abbrev pub burstC : Said → Scan → BurstAnswer
+burstC s scan = record { refusal = s .number; place = s .place; taken = amount s 0; filtered = amount s 1; scan = scan }
 
--- the table of a file
-abbrev pub loadC : (bytes : List ℕ) → TableLoaded
-loadC bytes = loadedC (verdictOf (loadOf bytes)) (tableFrom (loadOf bytes))
+-- ---- what C has after a call
 
--- writing into n places
-abbrev pub writeC : Table → (n : ℕ) → TableWritten
-writeC t n = writtenC (writtenOf t n)
+-- after a call on a scan: the answer, the two stores and the output
+pub record Handed (A : Type 0) : Type 0 where
+  pub answer : A
+  pub samples : List ℕ
+  pub sums : List ℕ
+  pub out : List ℤ
 
--- starting, with stores of these lengths
-abbrev pub startC : Table → (l samples sums : ℕ) → ScanStarted
-startC t l samples sums = startedC (startSays t l samples sums) (startScan (startSays t l samples sums) t l)
+abbrev pub handed : {A : Type 0} → A → (samples sums : List ℕ) → (out : List ℤ) → Handed A
+handed answer samples sums out = record { answer = answer; samples = samples; sums = sums; out = out }
 
--- closing: the scan shut, or as it was
-abbrev pub closeC : Scan → ScanStarted
-closeC s = startedC (closeSays s) (by (closeSays s) (shut s) s)
+abbrev pub leftC : {A : Type 0} → (answer : Said → Scan → A) → Left World → Handed A
+leftC answer x = handed (answer (x .said) (x .state .scan)) (x .state .samples) (x .state .sums) (x .out)
 
--- a row: the scan with one row more, or as it was
-abbrev pub rowInC : Scan → (row samples sums : List ℕ) → (out : ℕ) → ScanAnswer
-rowInC s row samples sums out = rowC (rowAnswer s (rowSays s row samples sums out)) (by (rowSays s row samples sums out) (rowIn s) s)
+-- after a table is written: the answer and the output
+pub record HandedFile : Type 0 where
+  pub answer : TableWritten
+  pub out : List ℕ
 
--- a closing step: the scan with one step more, or as it was
-abbrev pub stepInC : Scan → (samples sums : List ℕ) → (out : ℕ) → ScanAnswer
-stepInC s samples sums out =
-    stepC (stepAnswer s (stepTurn s samples sums out)) (byTurn (stepTurn s samples sums out) (stepIn s) s)
+abbrev pub handedFile : TableWritten → (out : List ℕ) → HandedFile
+handedFile answer out = record { answer = answer; out = out }
 
--- several rows together: the scan with the rows taken
-abbrev pub rowsC : Outcome → BurstAnswer
-rowsC o = burstC (o .verdict) (o .progress .taken) (o .progress .filtered) (o .progress .scan)
-
--- the pixel at a place of a lent scan
-abbrev pub pixelAtC : Table → (l : ℕ) → (samples : List ℕ) → (r c : ℕ) → PixelAnswer
-pixelAtC t l samples r c = pixelC (pixelAnswer t l samples r c)
+abbrev pub wroteC : Wrote → HandedFile
+wroteC x = handedFile (writtenC (x .said)) (x .out)

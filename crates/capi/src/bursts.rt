@@ -1,7 +1,8 @@
 // Several rows of a scan handed over together, for C.
 ghost use mathlib.Core.Path.{_≡_};
-ghost use Rattle.burst.specs.Bursts.{burstOf};
-ghost use Rattle.capi.specs.Answers.{burstC, rowsC};
+ghost use Rattle.scan.specs.Calls.{world};
+ghost use Rattle.burst.specs.Bursts.{burstOf, burstSaid};
+ghost use Rattle.capi.specs.Answers.{burstC, handed, leftC};
 use burst::Burst;
 use burst::rows;
 use layout::Verdict;
@@ -31,8 +32,8 @@ fn burst_of(refusal: u32, place: u32, taken: usize, filtered: usize, scan: Scan)
 }
 
 // What a burst comes to, as C has it.
-fn handed(b: Burst) -> BurstAnswer
-    ensures { λ r. ⌜ r ≡ burstC (b .verdict) (b .taken) (b .filtered) (b .scan) ⌝ }
+fn counted(b: Burst) -> BurstAnswer
+    ensures { λ r. ⌜ r ≡ burstC (burstSaid b) (b .scan) ⌝ }
 {
     let v = b.verdict;
     let scan = b.scan;
@@ -52,10 +53,8 @@ pub extern "C" fn strip_scan_rows(
     sums: &mut [u32],
     out: &mut [i32],
 ) -> BurstAnswer
-    ensures { λ r. ⌜ r ≡ rowsC (burstOf scan (now (lines .entry)) (now (samples .entry)) (now (sums .entry)) (now (out .entry))) ⌝ }
-    ensures { λ _. ⌜ now (samples .exit) ≡ burstOf scan (now (lines .entry)) (now (samples .entry)) (now (sums .entry)) (now (out .entry)) .progress .samples ⌝ }
-    ensures { λ _. ⌜ now (sums .exit) ≡ burstOf scan (now (lines .entry)) (now (samples .entry)) (now (sums .entry)) (now (out .entry)) .progress .sums ⌝ }
-    ensures { λ _. ⌜ now (out .exit) ≡ burstOf scan (now (lines .entry)) (now (samples .entry)) (now (sums .entry)) (now (out .entry)) .progress .out ⌝ }
+    ensures { λ r. ⌜ handed r (now (samples .exit)) (now (sums .exit)) (now (out .exit))
+        ≡ leftC burstC (burstOf (world scan (now (samples .entry)) (now (sums .entry))) (now (lines .entry)) (now (out .entry))) ⌝ }
 {
-    handed(rows(scan, lines, samples, sums, out))
+    counted(rows(scan, lines, samples, sums, out))
 }

@@ -1,6 +1,7 @@
 // The one-pixel call, for C.
 ghost use mathlib.Core.Path.{_≡_};
-ghost use Rattle.capi.specs.Answers.{pixelAtC};
+ghost use Rattle.pixel.specs.Call.{pixelAnswer};
+ghost use Rattle.capi.specs.Answers.{pixelC};
 use layout::Table;
 use pixel::Found;
 use pixel::pixel;
@@ -22,7 +23,7 @@ pub extern "C" fn strip_pixel(
     r: usize,
     c: usize,
 ) -> PixelAnswer
-    ensures { λ p. ⌜ p ≡ pixelAtC table width (now (samples .entry)) r c ⌝ }
+    ensures { λ p. ⌜ p ≡ pixelC (pixelAnswer table width (now (samples .entry)) r c) ⌝ }
 {
     let f = pixel(table, width, samples, r, c);
     match f {

@@ -1,14 +1,14 @@
 // A scan row by row, for C.
 ghost use mathlib.Core.Path.{_≡_};
-ghost use Prim.Native.Nat.{_*_};
-ghost use lib.ListN.{length};
-ghost use Rattle.arrival.specs.Arrivals.{by, samplesAfter, sumsAfter, outputAfter};
-ghost use Rattle.scan.specs.Calls.{byTurn, startSays, wiped, arrivalOf, rowSays, closingOf, stepTurn};
-ghost use Rattle.capi.specs.Answers.{startedC, rowC, stepC, startC, closeC, rowInC, stepInC};
+ghost use mathlib.Core.List.{List, []};
+ghost use Prim.Native.Nat.{ℕ};
+ghost use Rattle.layout.specs.Answers.{said, answerSaid, closingSaid};
+ghost use Rattle.scan.specs.Calls.{world, startOf, closeOf, rowOf, stepOf};
+ghost use Rattle.capi.specs.Answers.{startedC, answerC, handed, leftC};
+use layout::Answer;
+use layout::Closing;
 use layout::Table;
 use layout::Verdict;
-use scan::Answer;
-use scan::Closing;
 use scan::Moved;
 use scan::Scan;
 use scan::Started;
@@ -60,7 +60,7 @@ fn answer_of(kind: u32, number: u32, place: u32, scan: Scan) -> ScanAnswer
 
 // A verdict and a scan, as C has them.
 fn started(s: Started) -> ScanStarted
-    ensures { λ r. ⌜ r ≡ startedC (s .verdict) (s .scan) ⌝ }
+    ensures { λ r. ⌜ r ≡ startedC (said (s .verdict)) (s .scan) ⌝ }
 {
     let v = s.verdict;
     let scan = s.scan;
@@ -72,7 +72,7 @@ fn started(s: Started) -> ScanStarted
 
 // A row's answer and the scan after it, as C has them.
 fn moved(m: Moved) -> ScanAnswer
-    ensures { λ r. ⌜ r ≡ rowC (m .answer) (m .scan) ⌝ }
+    ensures { λ r. ⌜ r ≡ answerC (answerSaid (m .answer)) (m .scan) ⌝ }
 {
     let a = m.answer;
     let scan = m.scan;
@@ -85,7 +85,7 @@ fn moved(m: Moved) -> ScanAnswer
 
 // A closing step's answer and the scan after it, as C has them.
 fn stepped(m: Stepped) -> ScanAnswer
-    ensures { λ r. ⌜ r ≡ stepC (m .answer) (m .scan) ⌝ }
+    ensures { λ r. ⌜ r ≡ answerC (closingSaid (m .answer)) (m .scan) ⌝ }
 {
     let a = m.answer;
     let scan = m.scan;
@@ -105,9 +105,8 @@ pub extern "C" fn strip_scan_start(
     samples: &mut [u16],
     sums: &mut [u32],
 ) -> ScanStarted
-    ensures { λ r. ⌜ r ≡ startC table width (length (now (samples .entry))) (length (now (sums .entry))) ⌝ }
-    ensures { λ _. ⌜ now (samples .exit) ≡ by (startSays table width (length (now (samples .entry))) (length (now (sums .entry)))) (wiped (32 * width) (now (samples .entry))) (now (samples .entry)) ⌝ }
-    ensures { λ _. ⌜ now (sums .exit) ≡ by (startSays table width (length (now (samples .entry))) (length (now (sums .entry)))) (wiped (table .count * width) (now (sums .entry))) (now (sums .entry)) ⌝ }
+    ensures { λ r. ⌜ handed r (now (samples .exit)) (now (sums .exit)) []
+        ≡ leftC startedC (startOf table width (now (samples .entry)) (now (sums .entry))) ⌝ }
 {
     started(start(table, width, samples, sums))
 }
@@ -115,7 +114,7 @@ pub extern "C" fn strip_scan_start(
 // The scan closed, or the refusal and the scan as it was.
 #[no_mangle]
 pub extern "C" fn strip_scan_close(scan: Scan) -> ScanStarted
-    ensures { λ r. ⌜ r ≡ closeC scan ⌝ }
+    ensures { λ r. ⌜ ((samples sums : List ℕ) → handed r samples sums [] ≡ leftC startedC (closeOf (world scan samples sums))) ⌝ }
 {
     started(close(scan))
 }
@@ -129,10 +128,8 @@ pub extern "C" fn strip_scan_row(
     sums: &mut [u32],
     out: &mut [i32],
 ) -> ScanAnswer
-    ensures { λ r. ⌜ r ≡ rowInC scan (now (line .entry)) (now (samples .entry)) (now (sums .entry)) (length (now (out .entry))) ⌝ }
-    ensures { λ _. ⌜ now (samples .exit) ≡ by (rowSays scan (now (line .entry)) (now (samples .entry)) (now (sums .entry)) (length (now (out .entry)))) (samplesAfter (arrivalOf scan (now (line .entry)) (now (samples .entry)) (now (sums .entry)))) (now (samples .entry)) ⌝ }
-    ensures { λ _. ⌜ now (sums .exit) ≡ by (rowSays scan (now (line .entry)) (now (samples .entry)) (now (sums .entry)) (length (now (out .entry)))) (sumsAfter (arrivalOf scan (now (line .entry)) (now (samples .entry)) (now (sums .entry)))) (now (sums .entry)) ⌝ }
-    ensures { λ _. ⌜ now (out .exit) ≡ by (rowSays scan (now (line .entry)) (now (samples .entry)) (now (sums .entry)) (length (now (out .entry)))) (outputAfter (arrivalOf scan (now (line .entry)) (now (samples .entry)) (now (sums .entry))) (now (out .entry))) (now (out .entry)) ⌝ }
+    ensures { λ r. ⌜ handed r (now (samples .exit)) (now (sums .exit)) (now (out .exit))
+        ≡ leftC answerC (rowOf (world scan (now (samples .entry)) (now (sums .entry))) (now (line .entry)) (now (out .entry))) ⌝ }
 {
     moved(row(scan, line, samples, sums, out))
 }
@@ -145,10 +142,8 @@ pub extern "C" fn strip_scan_step(
     sums: &mut [u32],
     out: &mut [i32],
 ) -> ScanAnswer
-    ensures { λ r. ⌜ r ≡ stepInC scan (now (samples .entry)) (now (sums .entry)) (length (now (out .entry))) ⌝ }
-    ensures { λ _. ⌜ now (samples .exit) ≡ byTurn (stepTurn scan (now (samples .entry)) (now (sums .entry)) (length (now (out .entry)))) (samplesAfter (closingOf scan (now (samples .entry)) (now (sums .entry)))) (now (samples .entry)) ⌝ }
-    ensures { λ _. ⌜ now (sums .exit) ≡ byTurn (stepTurn scan (now (samples .entry)) (now (sums .entry)) (length (now (out .entry)))) (sumsAfter (closingOf scan (now (samples .entry)) (now (sums .entry)))) (now (sums .entry)) ⌝ }
-    ensures { λ _. ⌜ now (out .exit) ≡ byTurn (stepTurn scan (now (samples .entry)) (now (sums .entry)) (length (now (out .entry)))) (outputAfter (closingOf scan (now (samples .entry)) (now (sums .entry))) (now (out .entry))) (now (out .entry)) ⌝ }
+    ensures { λ r. ⌜ handed r (now (samples .exit)) (now (sums .exit)) (now (out .exit))
+        ≡ leftC answerC (stepOf (world scan (now (samples .entry)) (now (sums .entry))) (now (out .entry))) ⌝ }
 {
     stepped(step(scan, samples, sums, out))
 }

@@ -1,10 +1,8 @@
 // The table file, for C.
 ghost use mathlib.Core.Path.{_≡_};
-ghost use lib.ListN.{length};
-ghost use Rattle.layout.specs.Answers.{said};
-ghost use Rattle.table.specs.Format.{loadOf, verdictOf};
-ghost use Rattle.table.specs.Writing.{outputOf};
-ghost use Rattle.capi.specs.Answers.{loadC, writeC};
+ghost use Rattle.table.specs.Format.{loadOf, saidOf, handedOut};
+ghost use Rattle.table.specs.Writing.{writeOf};
+ghost use Rattle.capi.specs.Answers.{loadedC, handedFile, wroteC};
 use layout::Table;
 use layout::Verdict;
 use table::Written;
@@ -53,7 +51,7 @@ fn written(refusal: u32, place: u32, length: usize) -> TableWritten
 // 0 where the file is accepted, else the number of the refusal.
 #[no_mangle]
 pub extern "C" fn strip_table_check(bytes: &[u8]) -> u32
-    ensures { λ r. ⌜ r ≡ said (verdictOf (loadOf (now (bytes .entry)))) .number ⌝ }
+    ensures { λ r. ⌜ r ≡ saidOf (loadOf (now (bytes .entry))) .number ⌝ }
 {
     table_check(bytes)
 }
@@ -61,7 +59,7 @@ pub extern "C" fn strip_table_check(bytes: &[u8]) -> u32
 // The table of a file, or the refusal and a table with no rectangle.
 #[no_mangle]
 pub extern "C" fn strip_table_load(bytes: &[u8]) -> TableLoaded
-    ensures { λ r. ⌜ r ≡ loadC (now (bytes .entry)) ⌝ }
+    ensures { λ r. ⌜ r ≡ loadedC (handedOut (loadOf (now (bytes .entry)))) ⌝ }
 {
     let l = load(bytes);
     let v = l.verdict;
@@ -75,8 +73,7 @@ pub extern "C" fn strip_table_load(bytes: &[u8]) -> TableLoaded
 // The length of the file written to the start of out, or the refusal.
 #[no_mangle]
 pub extern "C" fn strip_table_write(table: Table, out: &mut [u8]) -> TableWritten
-    ensures { λ r. ⌜ r ≡ writeC table (length (now (out .entry))) ⌝ }
-    ensures { λ _. ⌜ now (out .exit) ≡ outputOf table (now (out .entry)) ⌝ }
+    ensures { λ r. ⌜ handedFile r (now (out .exit)) ≡ wroteC (writeOf table (now (out .entry))) ⌝ }
 {
     let w = write(table, out);
     match w {

@@ -1,34 +1,30 @@
+-- Finds one pixel and hands it out as C's struct: each arm is the answer's own case of the pixel's equation.
+-- Assumes nothing.
 use mir.Facts.{toZ-ofZ}
-use mathlib.Core.Path.{refl, sym, ap, _∙_}
-use Rattle.pixel.specs.declared.Found.the-variants.{Pixel}
+use mathlib.Core.Path.{ap, _∙_}
+use mathlib.Core.List.{[], _∷_}
+use Rattle.layout.specs.Answers.{accepted}
 use Rattle.capi.specs.Answers.{pixelC}
 use borrow.Author.Needs.{needs}
 use Rattle.capi.proofs.pixels.strip_pixel.Statement.{statement}
 use Rattle.capi.proofs.pixels.strip_pixel.Tie as tie
-use Rattle.capi.proofs.pixels.strip_pixel.Reads as reads
-use Rattle.capi.proofs.pixels.strip_pixel.Lts as lts
-use Rattle.pixel.proofs.pixel.Reads as pixel-reads
 
--- src/pixels.rt:27:9
 pixel-requires : tie.Need-pixel-requires
 pixel-requires c κs = search needs
 
--- src/pixels.rt:29:24
 enum-known-f : tie.Need-enum-known-f
 enum-known-f c = search needs
 
--- src/pixels.rt:34:22
 enum-known-f-2 : tie.Need-enum-known-f-2
 enum-known-f-2 c = search needs
 
--- src/pixels.rt:17:1
 returns : tie.Need-returns
-returns c = rw (sym (c .before .before .before .pixel .ensures) ∙ c .before .f .given .1) refl
+returns c = rw (c .before .f .given .1) at (ap pixelC (c .before .before .before .pixel .ensures))
 
--- src/pixels.rt:17:1
 returns-2 : tie.Need-returns-2
 returns-2 c =
-    rw (sym (c .before .before .before .pixel .ensures) ∙ c .before .f2 .given .1) (ap (λ v. pixelC (Pixel v)) (toZ-ofZ (record { sfits = c .known-told2 .given .0 .1 })))
+    ap (λ v. pixelC (accepted (v ∷ []))) (toZ-ofZ (record { sfits = c .known-told2 .given .0 .1 }))
+    ∙ rw (c .before .f2 .given .1) at (ap pixelC (c .before .before .before .pixel .ensures))
 
 pub strip-pixel-spec : {M : Type 1} → statement M
 strip-pixel-spec =
