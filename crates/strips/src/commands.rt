@@ -1,7 +1,7 @@
 // The commands, each known by its first letter. They are handed the numbers of their line, n, and how many these are, k;
 // zeros come after them.
+use crate::answered;
 use crate::desk::Desk;
-use crate::told;
 use crate::words::bytes;
 use crate::words::least;
 use crate::words::letter;
@@ -16,8 +16,8 @@ use scan::Scan;
 fn loaded(file: &[u8]) -> Table {
     let l = table::load(file);
     let v = l.verdict;
-    told::verdict(v);
-    told::put_number(b", check ", table::table_check(file));
+    answered::verdict(v);
+    answered::put_number(b", check ", table::table_check(file));
     l.table
 }
 
@@ -55,7 +55,7 @@ fn set_state(n: &[u16], s: Scan) -> Scan {
 fn close(s: Scan) -> Scan {
     let c = scan::close(s);
     let v = c.verdict;
-    told::verdict(v);
+    answered::verdict(v);
     c.scan
 }
 
@@ -63,7 +63,7 @@ fn close(s: Scan) -> Scan {
 
 fn pixel_of(n: &[u16], t: Table, lent: &[u16]) {
     let f = pixel::pixel(t, long(n, 0), lent, long(n, 1), long(n, 2));
-    told::found(f);
+    answered::found(f);
 }
 
 fn pixel(n: &[u16], t: Table) {
@@ -82,7 +82,7 @@ fn wide(x: u16) -> u32 {
 fn keep(n: &[u16], kept: &mut [u16]) {
     let i = long(n, 0);
     if i < kept.len() {
-        told::put_number(b" = ", wide(kept[i]));
+        answered::put_number(b" = ", wide(kept[i]));
         kept[i] = number(n, 1);
     }
 }
@@ -99,21 +99,21 @@ fn alter(n: &[u16], sums: &mut [u32]) {
 fn begin(n: &[u16], s: Scan, kept: &mut [u16], sums: &mut [u32]) -> Scan {
     let b = scan::start(s.table, long(n, 0), kept, sums);
     let v = b.verdict;
-    told::verdict(v);
+    answered::verdict(v);
     b.scan
 }
 
 fn row(s: Scan, given: &[u16], kept: &mut [u16], sums: &mut [u32], out: &mut [i32]) -> Scan {
     let m = scan::row(s, given, kept, sums, out);
     let a = m.answer;
-    told::row(a, s.width, out);
+    answered::row(a, s.width, out);
     m.scan
 }
 
 fn step(s: Scan, kept: &mut [u16], sums: &mut [u32], out: &mut [i32]) -> Scan {
     let m = scan::step(s, kept, sums, out);
     let a = m.answer;
-    told::step(a, s.width, out);
+    answered::step(a, s.width, out);
     m.scan
 }
 
@@ -209,11 +209,11 @@ fn obey(x: u8, n: &[u16], k: usize, d: Desk, kept: &mut [u16], sums: &mut [u32])
 
 // A line: written, done, and its answer written after it.
 pub fn command(line: &[u8], d: Desk, kept: &mut [u16], sums: &mut [u32]) -> Desk {
-    told::put(line);
+    answered::put(line);
     let x = letter(line);
     let mut at = [0u16; 2048];
     let k = numbers(line, x == b't', &mut at);
     let after = obey(x, &at, k, d, kept, sums);
-    told::put(b"\n");
+    answered::put(b"\n");
     after
 }

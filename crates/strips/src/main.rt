@@ -13,9 +13,9 @@
 //   keep I X                      a kept sample set by hand; answers what stood there
 //   alter I X                     a column sum set by hand
 //   pixel L R C N X X ..          the one-pixel call on a scan of N samples, these first and zeros after them
+mod answered;
 mod commands;
 mod desk;
-mod told;
 mod words;
 
 ghost use Prim.Native.Nat.{_≤_};

@@ -1,4 +1,4 @@
--- `strips::all` is safe and ends. The stores keep their lengths; each turn starts further on in the text.
+-- Does every line of the text: the stores keep their lengths, and each line starts further on in the text.
 -- Assumes nothing.
 use Prim.Native.Nat.{_-_, _≤_}
 use lib.ListN.{length}

@@ -1,4 +1,4 @@
--- `strips::line_end` is safe and ends. The place lies between the start and the end of the text.
+-- Finds the end of a line: the place lies between the start and the end of the text.
 -- Assumes nothing.
 use Prim.Native.Nat.{_-_, _≤_}
 use lib.ListN.{length}

@@ -1,4 +1,4 @@
--- `strips::words::bytes` is safe and ends. The file keeps its length.
+-- Puts numbers down as the bytes of a file: the file keeps its length.
 -- Assumes nothing.
 use Prim.Native.Nat.{_-_, _≤_}
 use lib.ListN.{length}

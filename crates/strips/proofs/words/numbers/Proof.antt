@@ -1,4 +1,4 @@
--- `strips::words::numbers` is safe and ends. The store of the numbers keeps its length.
+-- Reads the numbers of a line: each place is below 2,048, and the store of the numbers keeps its length.
 -- Assumes nothing.
 use Prim.Native.Nat.{_-_}
 use lib.ListN.{length}
