@@ -19,9 +19,9 @@ use Rattle.capi.specs.declared.scans.ScanAnswer.{ScanAnswer}
 use Rattle.capi.specs.declared.bursts.BurstAnswer.{BurstAnswer}
 use Rattle.capi.specs.declared.pixels.PixelAnswer.{PixelAnswer}
 
--- ---- an answer, from what a call says
+-- ---- an answer, from what a call says: a refusal has the number and the place of its question, and every other answer 0 and 0
 
--- its value k, 0 where it says none; and that as a natural number
+-- value k of what is said, 0 where there is none; and the same as a natural number
 abbrev pub value : Said → (k : ℕ) → ℤ
 value s k = getD (s .values) k (pos 0)
 
@@ -44,7 +44,7 @@ pixelC s = record { refusal = s .number; place = s .place; value = value s 0 }
 abbrev pub startedC : Said → Scan → ScanStarted
 startedC s scan = record { refusal = s .number; place = s .place; scan = scan }
 
--- a row or a closing step, and the scan after it: a filtered row has its own number where a refusal has the question's
+-- a row or a closing step, and the scan after it: a filtered row has the row's number where a refusal has the question's
 abbrev pub answerC : Said → Scan → ScanAnswer
 answerC s scan = record { kind = s .kind; number = cond (eqb (s .kind) 1) (amount s 0) (s .number); place = s .place; scan = scan }
 

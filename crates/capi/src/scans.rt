@@ -84,11 +84,11 @@ fn moved(m: Moved) -> ScanAnswer
 }
 
 // A closing step's answer and the scan after it, as C has them.
-fn stepped(m: Stepped) -> ScanAnswer
-    ensures { λ r. ⌜ r ≡ answerC (closingSaid (m .answer)) (m .scan) ⌝ }
+fn stepped(after: Stepped) -> ScanAnswer
+    ensures { λ r. ⌜ r ≡ answerC (closingSaid (after .answer)) (after .scan) ⌝ }
 {
-    let a = m.answer;
-    let scan = m.scan;
+    let a = after.answer;
+    let scan = after.scan;
     match a {
         Closing::Refused(number, place) => answer_of(0, number, place, scan),
         Closing::Row(number) => answer_of(1, number, 0, scan),

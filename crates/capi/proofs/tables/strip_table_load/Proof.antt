@@ -22,10 +22,14 @@ loaded-requires-2 : tie.Need-loaded-requires-2
 loaded-requires-2 c κs = search needs
 
 returns : tie.Need-returns
-returns c = c .loaded .ensures ∙ rw (c .before .before .v .given .1) at (ap loadedC (c .before .before .before .before .before .load .ensures))
+returns c =
+    let e = c .before .before .before .before .before .load .ensures in
+    c .loaded .ensures ∙ rw (c .before .before .v .given .1) at (ap loadedC e)
 
 returns-2 : tie.Need-returns-2
-returns-2 c = c .loaded2 .ensures ∙ rw (c .before .enum-told .given .1) at (ap loadedC (c .before .before .before .before .load .ensures))
+returns-2 c =
+    let e = c .before .before .before .before .load .ensures in
+    c .loaded2 .ensures ∙ rw (c .before .enum-told .given .1) at (ap loadedC e)
 
 pub strip-table-load-spec : {M : Type 1} → statement M
 strip-table-load-spec =

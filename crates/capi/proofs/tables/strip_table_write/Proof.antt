@@ -26,14 +26,16 @@ same-length c = search needs
 
 returns : tie.Need-returns
 returns c =
-    rw (c .written .ensures) (rw (c .before .before .w .given .1) at (ap wroteC (c .before .before .before .before .before .before .write .ensures)))
+    let e = c .before .before .before .before .before .before .write .ensures in
+    rw (c .written .ensures) (rw (c .before .before .w .given .1) at (ap wroteC e))
 
 same-length-2 : tie.Need-same-length-2
 same-length-2 c = search needs
 
 returns-2 : tie.Need-returns-2
 returns-2 c =
-    rw (c .written2 .ensures) (rw (c .before .before .w2 .given .1) at (ap wroteC (c .before .before .before .before .before .before .write .ensures)))
+    let e = c .before .before .before .before .before .before .write .ensures in
+    rw (c .written2 .ensures) (rw (c .before .before .w2 .given .1) at (ap wroteC e))
 
 pub strip-table-write-spec : {M : Type 1} → statement M
 strip-table-write-spec =

@@ -6,7 +6,8 @@ use Rattle.differential.proofs.filter.pixel.Statement.{statement}
 use Rattle.differential.proofs.filter.pixel.Tie as tie
 
 abbrev Inv-loop : tie.InvT-loop
-Inv-loop v scan t count sum₀ k₀ sum k = (k ≤ count) × (count ≤ 16) × (sum ≤ 8796093022208 + 274877906944 * k) × (8796093022208 ≤ sum + 274877906944 * k)
+Inv-loop v scan t count sum₀ k₀ sum k =
+    (k ≤ count) × (count ≤ 16) × (sum ≤ 8796093022208 + 274877906944 * k) × (8796093022208 ≤ sum + 274877906944 * k)
 
 abbrev μ-loop : tie.MeasureT-loop
 μ-loop v scan t count sum₀ k₀ sum k = count - k
