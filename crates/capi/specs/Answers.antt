@@ -19,7 +19,7 @@ use Rattle.capi.specs.declared.scans.ScanAnswer.{ScanAnswer}
 use Rattle.capi.specs.declared.bursts.BurstAnswer.{BurstAnswer}
 use Rattle.capi.specs.declared.pixels.PixelAnswer.{PixelAnswer}
 
--- ---- an answer, from what a call says: a refusal has the number and the place of its question, and every other answer 0 and 0
+-- ---- an answer, from what a call says, whose number and place are 0 but for a refusal
 
 -- value k of what is said, 0 where there is none; and the same as a natural number
 abbrev pub value : Said → (k : ℕ) → ℤ
