@@ -17,7 +17,7 @@ use Rattle.layout.specs.declared.Rect.{Rect}
 use Rattle.layout.specs.declared.Table.{Table}
 use Rattle.layout.specs.Contents.{rect}
 use Rattle.layout.specs.Measure.{rowsOf, colsOf, lossFigure}
-use Rattle.rule.specs.Sums.{Scan, covered, fullSum, columnSum, windowSum, scaledSum}
+use Rattle.rule.specs.Sums.{Image, covered, fullSum, columnSum, windowSum, scaledSum}
 use Rattle.rule.specs.Pixels.{fullValue, cutValue}
 use Rattle.rule.specs.Accuracy.{NothingDropped, lossUnder, RectAccuracy, Accuracy}
 use Rattle.rule.proofs.Dropped.{sampleRests, columnRests, windowRest, dropped, full-dropped, dropped-most}
@@ -27,12 +27,12 @@ factor-zero : (q n : ℕ) → 2 ^ q * n ≡ 0 → n ≡ 0
 factor-zero q n e = let p = pow-pos q in let l = mul-le-mul-left n p in omega arith
 
 -- nothing is dropped exactly when the total is 0
-none-zero : (t : Table) (x : Scan) (d : Rect) (r c : ℤ) → NothingDropped t x d r c → dropped t x d r c ≡ 0
+none-zero : (t : Table) (x : Image) (d : Rect) (r c : ℤ) → NothingDropped t x d r c → dropped t x d r c ≡ 0
 unfolding dropped sampleRests columnRests windowRest
 none-zero t x d r c n =
     rw (sum-zero (colsOf d) (λ j l. sum-zero (rowsOf d) (λ i h. n .samples i j h l)), sum-zero (colsOf d) (n .columns), n .window) (omega arith)
 
-zero-none : (t : Table) (x : Scan) (d : Rect) (r c : ℤ) → dropped t x d r c ≡ 0 → NothingDropped t x d r c
+zero-none : (t : Table) (x : Image) (d : Rect) (r c : ℤ) → dropped t x d r c ≡ 0 → NothingDropped t x d r c
 unfolding dropped sampleRests columnRests windowRest
 zero-none t x d r c e =
     let s : sampleRests t x d r c ≡ 0 = omega arith in
@@ -45,7 +45,7 @@ zero-none t x d r c e =
     }
 
 -- A1 and A2
-pub rect-accuracy : (t : Table) (x : Scan) (d : Rect) (r c : ℤ) → RectAccuracy t x d r c
+pub rect-accuracy : (t : Table) (x : Image) (d : Rect) (r c : ℤ) → RectAccuracy t x d r c
 rect-accuracy t x d r c =
     let e = full-dropped t x d r c in
     let m = dropped-most t x d r c in
@@ -75,7 +75,7 @@ parted n part f s k e =
     sum-cong n (λ i l. let h = ap (λ y. part i * y) (e i) in omega arith) ∙ sum-add n (λ i. part i * s i) (λ i. part i * k i)
 
 -- A3: full value less cut value is what was dropped, each times its weight
-value-dropped : (t : Table) (x : Scan) (r c : ℤ)
+value-dropped : (t : Table) (x : Image) (r c : ℤ)
     → Diff (fullValue t x r c -ℤ cutValue t x r c)
     (sum (t .count) (λ k. posPart (rect t k .weight) * dropped t x (rect t k) r c))
     (sum (t .count) (λ k. negPart (rect t k .weight) * dropped t x (rect t k) r c))
@@ -88,7 +88,7 @@ value-dropped t x r c =
     let n = parted (t .count) (λ k. negPart (rect t k .weight)) f s k (λ i. full-dropped t x (rect t i) r c) in
     diff-shift (diff-minus (weighted t f) (weighted t s)) (omega arith)
 
-pub accuracy : (t : Table) (x : Scan) (r c : ℤ) → Accuracy t x r c
+pub accuracy : (t : Table) (x : Image) (r c : ℤ) → Accuracy t x r c
 unfolding lossUnder
 accuracy t x r c =
     let v = value-dropped t x r c in

@@ -15,7 +15,7 @@ use Rattle.layout.specs.declared.Rect.{Rect}
 use Rattle.layout.specs.declared.Table.{Table}
 use Rattle.layout.specs.Contents.{rect}
 use Rattle.layout.specs.Measure.{rowsOf, colsOf, delayOf}
-use Rattle.rule.specs.Sums.{Scan, covered, columnSum, windowSum, cutSum, scaledSum}
+use Rattle.rule.specs.Sums.{Image, covered, columnSum, windowSum, cutSum, scaledSum}
 use Rattle.rule.specs.Pixels.{cutValue, pixelOf}
 
 -- a covered row is at most p + lead
@@ -33,14 +33,14 @@ lead-most t k l = le-largest (t .count) (λ k. posPart (rect t k .leadrow)) k l
 
 -- scans that agree on a rectangle's rows have the same column sums
 pub column-same :
-    (t : Table) (d : Rect) (x y : Scan) (r : ℤ) → ((i : ℕ) → i < rowsOf d → (j : ℤ) → x (covered r (d .trailrow) i) j ≡ y (covered r (d .trailrow) i) j)
+    (t : Table) (d : Rect) (x y : Image) (r : ℤ) → ((i : ℕ) → i < rowsOf d → (j : ℤ) → x (covered r (d .trailrow) i) j ≡ y (covered r (d .trailrow) i) j)
     → (j : ℤ) → columnSum t x d r j ≡ columnSum t y d r j
 unfolding columnSum
 column-same t d x y r h j = sum-cong (rowsOf d) (λ i l. ap (λ s. s / 2 ^ t .q1) (h i l j))
 
 -- scans with the same column sums have the same pixels
 pub pixel-same :
-    (t : Table) (x y : Scan) (r c : ℤ) → ((k : ℕ) → k < t .count → (j : ℤ) → columnSum t x (rect t k) r j ≡ columnSum t y (rect t k) r j)
+    (t : Table) (x y : Image) (r c : ℤ) → ((k : ℕ) → k < t .count → (j : ℤ) → columnSum t x (rect t k) r j ≡ columnSum t y (rect t k) r j)
     → pixelOf t x r c ≡ pixelOf t y r c
 unfolding pixelOf cutValue scaledSum cutSum windowSum
 pixel-same t x y r c h =
@@ -50,6 +50,6 @@ pixel-same t x y r c h =
 
 -- P3: a pixel of row r depends on the rows up to r + D only
 pub pixel-depends :
-    (t : Table) (x y : Scan) (r c : ℤ) → ((i j : ℤ) → i ≤ℤ (r +ℤ pos (delayOf t)) → x i j ≡ y i j) → pixelOf t x r c ≡ pixelOf t y r c
+    (t : Table) (x y : Image) (r c : ℤ) → ((i j : ℤ) → i ≤ℤ (r +ℤ pos (delayOf t)) → x i j ≡ y i j) → pixelOf t x r c ≡ pixelOf t y r c
 pixel-depends t x y r c h =
     pixel-same t x y r c (λ k l. column-same t (rect t k) x y r (λ i m j. h _ j (covered-most (rect t k) r i (delayOf t) m (lead-most t k l))))

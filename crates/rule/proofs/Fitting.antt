@@ -26,14 +26,14 @@ use Rattle.limits.specs.Limits.{acceptable, valueGood}
 use Rattle.limits.specs.Slots.{term, terms}
 use Rattle.limits.proofs.Granted.{Granted, granted}
 use Rattle.limits.proofs.Values.{value-slots}
-use Rattle.rule.specs.Sums.{Scan, HasBits, covered, fullSum, columnSum, windowSum, scaledSum}
+use Rattle.rule.specs.Sums.{Image, HasBits, covered, fullSum, columnSum, windowSum, scaledSum}
 use Rattle.rule.specs.Pixels.{cutValue, pixelOf}
 use Rattle.rule.proofs.Dropped.{full-window, full-dropped}
 use Rattle.rule.proofs.Accurate.{weighted}
 
 -- ---- sums
 
-pub full-most : (b : ℕ) {x : Scan} → HasBits b x → (d : Rect) (r c : ℤ) → fullSum x d r c ≤ rowsOf d * colsOf d * (2 ^ b - 1)
+pub full-most : (b : ℕ) {x : Image} → HasBits b x → (d : Rect) (r c : ℤ) → fullSum x d r c ≤ rowsOf d * colsOf d * (2 ^ b - 1)
 unfolding fullSum
 full-most b {x} h d r c =
     let s = sum-bound (colsOf d) (rowsOf d * (2 ^ b - 1)) {f = λ j. sum (rowsOf d) (λ i. x (covered r (d .trailrow) i) (covered c (d .trailcol) j))}
@@ -41,7 +41,7 @@ full-most b {x} h d r c =
     omega arith
 
 -- a cut sum scaled back is at most the full sum
-pub scaled-le-full : (t : Table) (x : Scan) (d : Rect) (r c : ℤ) → scaledSum t x d r c ≤ fullSum x d r c
+pub scaled-le-full : (t : Table) (x : Image) (d : Rect) (r c : ℤ) → scaledSum t x d r c ≤ fullSum x d r c
 scaled-le-full t x d r c = let e = full-dropped t x d r c in omega arith
 
 -- a cut sample of b bits has b - q bits
@@ -51,7 +51,7 @@ cut-most b q {s} h l =
     le-ones (b - q) (shr-lt (b - q) q (subst (λ n. s < 2 ^ n) (sym e) (lt-of-le-ones b l)))
 
 pub column-most :
-    (t : Table) {x : Scan} → HasBits (t .b) x → t .q1 ≤ t .b → (d : Rect) (r j : ℤ)
+    (t : Table) {x : Image} → HasBits (t .b) x → t .q1 ≤ t .b → (d : Rect) (r j : ℤ)
     → columnSum t x d r j ≤ rowsOf d * (2 ^ (t .b - t .q1) - 1)
 unfolding columnSum
 column-most t h q d r j = sum-bound (rowsOf d) (2 ^ (t .b - t .q1) - 1) (λ i l. cut-most (t .b) (t .q1) q (h _ j))
@@ -67,7 +67,7 @@ product-fits m n l =
 
 -- W1: a column sum before its cut fits its word
 pub column-fits :
-    (t : Table) → acceptable t ≡ true → {x : Scan} → HasBits (t .b) x → (k : ℕ) → k < t .count → (r j : ℤ)
+    (t : Table) → acceptable t ≡ true → {x : Image} → HasBits (t .b) x → (k : ℕ) → k < t .count → (r j : ℤ)
     → columnSum t x (rect t k) r j < 2 ^ columnWord t (rect t k)
 unfolding columnWord
 column-fits t a h k l r j =
@@ -78,7 +78,7 @@ column-fits t a h k l r j =
 
 -- W2: a window sum before its cut fits its word, and is 0 where that has no bits
 pub window-fits :
-    (t : Table) → acceptable t ≡ true → {x : Scan} → HasBits (t .b) x → (k : ℕ) → k < t .count → (r c : ℤ)
+    (t : Table) → acceptable t ≡ true → {x : Image} → HasBits (t .b) x → (k : ℕ) → k < t .count → (r c : ℤ)
     → windowSum t x (rect t k) r c < 2 ^ windowWord t (rect t k)
 unfolding windowWord
 window-fits t a {x} h k l r c =
@@ -132,7 +132,7 @@ value-fits t a s h =
 
 -- P2: the pixel fits the pixel word
 pub pixel-fits :
-    (t : Table) → acceptable t ≡ true → {x : Scan} → HasBits (t .b) x → (r c : ℤ) → T (fitsSigned (t .w) (pixelOf t x r c))
+    (t : Table) → acceptable t ≡ true → {x : Image} → HasBits (t .b) x → (r c : ℤ) → T (fitsSigned (t .w) (pixelOf t x r c))
 unfolding pixelOf cutValue
 pixel-fits t a {x} h r c =
     value-fits t a (λ k. scaledSum t x (rect t k) r c) (λ k l. le-trans (scaled-le-full t x (rect t k) r c) (full-most (t .b) h (rect t k) r c))

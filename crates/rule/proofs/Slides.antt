@@ -11,7 +11,7 @@ use Rattle.arith.proofs.Ints.{diff-parts, diff-pos, diff-add, diff-minus, diff-
 use Rattle.layout.specs.declared.Rect.{Rect}
 use Rattle.layout.specs.declared.Table.{Table}
 use Rattle.layout.specs.Measure.{rowsOf, colsOf}
-use Rattle.rule.specs.Sums.{Scan, covered, columnSum, windowSum}
+use Rattle.rule.specs.Sums.{Image, covered, columnSum, windowSum}
 
 -- the places covered from p + 1 are those covered from p, each one further
 pub covered-next : (p trail : ℤ) (i : ℕ) → covered (p +ℤ pos 1) trail i ≡ covered p trail (suc i)
@@ -50,7 +50,7 @@ slide-any f p trail n =
 
 -- a column sum moves down by a row
 pub column-slide :
-    (t : Table) (x : Scan) (d : Rect) (r j : ℤ)
+    (t : Table) (x : Image) (d : Rect) (r j : ℤ)
     → columnSum t x d r j + x (covered r (d .trailrow) (rowsOf d)) j / 2 ^ t .q1
     ≡ x (covered r (d .trailrow) 0) j / 2 ^ t .q1 + columnSum t x d (r +ℤ pos 1) j
 unfolding columnSum
@@ -58,7 +58,7 @@ column-slide t x d r j = slide-any (λ z. x z j / 2 ^ t .q1) r (d .trailrow) (ro
 
 -- a window sum moves right by a column
 pub window-slide :
-    (t : Table) (x : Scan) (d : Rect) (r c : ℤ)
+    (t : Table) (x : Image) (d : Rect) (r c : ℤ)
     → windowSum t x d r c + columnSum t x d r (covered c (d .trailcol) (colsOf d)) / 2 ^ t .q2
     ≡ columnSum t x d r (covered c (d .trailcol) 0) / 2 ^ t .q2 + windowSum t x d r (c +ℤ pos 1)
 unfolding windowSum

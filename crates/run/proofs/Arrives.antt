@@ -28,7 +28,7 @@ use Rattle.layout.specs.Measure.{rowsOf, colsOf, delayOf}
 use Rattle.limits.specs.Limits.{acceptable}
 use Rattle.limits.proofs.Bounds.{Edges, RectBounds}
 use Rattle.limits.proofs.Granted.{Granted, granted}
-use Rattle.rule.specs.Sums.{Scan, HasBits, covered, columnSum, windowSum, cutSum, scaledSum}
+use Rattle.rule.specs.Sums.{Image, HasBits, covered, columnSum, windowSum, cutSum, scaledSum}
 use Rattle.rule.specs.Pixels.{cutValue, pixelOf}
 use Rattle.rule.proofs.Fitting.{column-most}
 use Rattle.arith.proofs.Bools.{true-of}
@@ -42,14 +42,14 @@ use Rattle.run.specs.Holds.{Kept}
 use Rattle.run.proofs.Kept.{row-is}
 
 -- a scan of rows of l samples of b bits
-pub record Lies (l b : ℕ) (x : Scan) : Type 0 where
+pub record Lies (l b : ℕ) (x : Image) : Type 0 where
   pub above : (i : ℕ) (j : ℤ) → x (negsuc i) j ≡ 0
   pub left : (i : ℤ) (j : ℕ) → x i (negsuc j) ≡ 0
   pub right : (i : ℤ) (j : ℕ) → l ≤ j → x i (pos j) ≡ 0
   pub bits : HasBits b x
 
 -- arrival a of a run over x: the row is x's, and the stores hold what the arrivals before left
-pub record Finds (x : Scan) (v : Arrival) : Type 0 where
+pub record Finds (x : Image) (v : Arrival) : Type 0 where
   pub table : acceptable (v .table) ≡ true
   pub lies : Lies (v .width) (v .table .b) x
   pub row : (c : ℕ) → c < v .width → getD (v .row) c 0 ≡ x (pos (v .number)) (pos c)
@@ -58,7 +58,7 @@ pub record Finds (x : Scan) (v : Arrival) : Type 0 where
       (k c : ℕ) → k < v .table .count → c < v .width
       → stored v k c ≡ columnSum (v .table) x (rect (v .table) k) (subℕ (v .number) (suc (delayOf (v .table)))) (pos c)
 
-module _ (x : Scan) (v : Arrival) (f : Finds x v) where
+module _ (x : Image) (v : Arrival) (f : Finds x v) where
   abbrev t : Table
   t = v .table
 

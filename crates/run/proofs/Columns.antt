@@ -13,7 +13,7 @@ use Rattle.layout.specs.declared.Rect.{Rect}
 use Rattle.layout.specs.declared.Table.{Table}
 use Rattle.layout.specs.Measure.{rowsOf, colsOf, delayOf}
 use Rattle.limits.proofs.Bounds.{Edges, extent, RectBounds}
-use Rattle.rule.specs.Sums.{Scan, covered, columnSum}
+use Rattle.rule.specs.Sums.{Image, covered, columnSum}
 
 -- the rows that the edges reach at arrival a, from the sum of the arrival before
 

@@ -14,7 +14,7 @@ use lib.IntN.{ℤ, pos, negsuc}
 use lib.ListN.{length, getD, take, drop, length-append, length-drop, List·getD-append}
 use lib.Seq.{getD-append-add, getD-take, getD-drop, length-take-le}
 use Rattle.arith.specs.Tab.{paste}
-use Rattle.rule.specs.Sums.{Scan}
+use Rattle.rule.specs.Sums.{Image}
 use Rattle.arrival.specs.Arrivals.{rowAt}
 use Rattle.run.specs.Holds.{Kept}
 
@@ -50,13 +50,13 @@ module _ (p : ℕ) (xs ys : List ℕ) (h : p + length xs ≤ length ys) where
       ap (λ i. getD (paste p xs ys) i 0) e ∙ getD-append-add (take p ys ++ xs) (drop (p + length xs) ys) (k - (p + length xs)) 0
       ∙ getD-drop (p + length xs) ys (k - (p + length xs)) 0 ∙ ap (λ i. getD ys i 0) m
 
-pub kept-none : (l : ℕ) (x : Scan) (samples : List ℕ) → Kept l x 0 samples
+pub kept-none : (l : ℕ) (x : Image) (samples : List ℕ) → Kept l x 0 samples
 unfolding Kept
 kept-none l x samples e c h = absurd (not-suc-le-zero h)
 
 -- one arrival more
 pub kept-next :
-    (l : ℕ) (x : Scan) (a : ℕ) (row samples : List ℕ) → length row ≡ l → 32 * l ≤ length samples
+    (l : ℕ) (x : Image) (a : ℕ) (row samples : List ℕ) → length row ≡ l → 32 * l ≤ length samples
     → ((c : ℕ) → c < l → getD row c 0 ≡ x (pos a) (pos c)) → Kept l x a samples → Kept l x (a + 1) (paste (a % 32 * l) row samples)
 unfolding Kept
 kept-next l x a row samples n long is kept e c h m lc = ⊎-elim older (λ (q : suc e ≡ suc a). newest (suc-inj q)) (le-suc-iff .0 (subst (λ k. e < k) (add-one a) h))
@@ -82,7 +82,7 @@ kept-next l x a row samples n long is kept e c h m lc = ⊎-elim older (λ (q : 
 
 -- the rows that the engine reads are the scan's
 pub row-is :
-    (l : ℕ) (x : Scan) (a : ℕ) (row samples : List ℕ) → ((i c : ℕ) → x (negsuc i) (pos c) ≡ 0)
+    (l : ℕ) (x : Image) (a : ℕ) (row samples : List ℕ) → ((i c : ℕ) → x (negsuc i) (pos c) ≡ 0)
     → ((c : ℕ) → c < l → getD row c 0 ≡ x (pos a) (pos c)) → Kept l x a samples
     → (z : ℤ) → ((e : ℕ) → z ≡ pos e → (e ≤ a) × (a ≤ e + 31)) → (c : ℕ) → c < l → rowAt l a row samples z c ≡ x z (pos c)
 unfolding rowAt Kept

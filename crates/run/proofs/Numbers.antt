@@ -16,7 +16,7 @@ use Rattle.layout.specs.Answers.{refused, accepted, waiting, done, asks, firstN
 use Rattle.layout.specs.Measure.{delayOf}
 use Rattle.layout.specs.Sequences.{Reply, replies, ended}
 use Rattle.layout.proofs.Questions.{AllYes, each-way}
-use Rattle.rule.specs.Sums.{Scan}
+use Rattle.rule.specs.Sums.{Image}
 use Rattle.rule.specs.Pixels.{pixelOf}
 use Rattle.scan.specs.Calls.{startOf}
 use Rattle.run.specs.Rows.{scanned, goodRows}
@@ -65,7 +65,7 @@ module _ (m : Machine) (h : Whole m) where
   stays out n p = record { numbers = range-none (rowsOut m); more = omega arith; whole = h }
 
   -- an arrival after rowsOut m + D of them, or fewer
-  goes-due : (x : Scan) (a : ℕ) (out : List ℤ) (after : Machine) → a ≡ length (m .rows) + m .steps → rowsOut after ≡ a + 1 - delayOf (m .table) → Whole after
+  goes-due : (x : Image) (a : ℕ) (out : List ℤ) (after : Machine) → a ≡ length (m .rows) + m .steps → rowsOut after ≡ a + 1 - delayOf (m .table) → Whole after
       → Goes m (dueLeft (m .table) (m .width) x a out after)
   unfolding dueLeft
   goes-due x a out after e f k = go (ltb a (delayOf (m .table))) (ltb→lt a (delayOf (m .table))) (nltb→le a (delayOf (m .table)))

@@ -21,10 +21,10 @@ use Rattle.layout.proofs.Questions.{AllYes, same-questions, first-append}
 use Rattle.layout.proofs.Sequences.{simulates}
 use Rattle.limits.specs.Limits.{acceptable}
 use Rattle.rule.specs.Questions.{widthGood}
-use Rattle.rule.specs.Sums.{Scan, sampleAt}
+use Rattle.rule.specs.Sums.{Image, sampleAt}
 use Rattle.rule.specs.Pixels.{pixelOf}
 use Rattle.arrival.specs.Arrivals.{Arrival, storesGood, sumGood, arrivalAsks, samplesAfter, sumsAfter, outputAfter, pixelAt}
-use Rattle.scan.specs.declared.Scan.{Scan as Engine}
+use Rattle.scan.specs.declared.Scan.{Scan}
 use Rattle.scan.specs.Calls.{World, world, agrees, lentGood, startAsks, startOf, arrivalOf, dueSaid, takenIn, rowIn, rowAsks, rowOf, shut, closeOf, stepIn, closingOf, stepOf}
 use Rattle.burst.specs.Bursts.{progress, feed, allRows, noRows, burstAsks, burstOf}
 use Rattle.run.specs.Rows.{scanned, goodRows}
@@ -39,7 +39,7 @@ use Rattle.run.proofs.Alike.{Matches, feed-alike, left-alike}
 -- ---- the relation
 
 -- the engine's state that a machine has
-abbrev pub stateOf : Machine → Engine
+abbrev pub stateOf : Machine → Scan
 stateOf m = record { table = m .table; width = m .width; rows = length (m .rows); steps = m .steps; closed = m .closed }
 
 -- a machine that the papers' rules allow
@@ -100,7 +100,7 @@ module _ (m : Machine) (samples sums : List ℕ) (f : Fair m) (st : Holds m samp
       )))
 
   -- an arrival of x with these stores
-  module _ (x : Scan) (row : List ℕ) (out : List ℤ) (lies : Lies (m .width) (m .table .b) x)
+  module _ (x : Image) (row : List ℕ) (out : List ℤ) (lies : Lies (m .width) (m .table .b) x)
       (is : (c : ℕ) → c < m .width → getD row c 0 ≡ x (pos (length (m .rows) + m .steps)) (pos c))
       (found : Stores (m .table) (m .width) x (length (m .rows) + m .steps) samples sums) where
     abbrev a : ℕ
@@ -112,7 +112,7 @@ module _ (m : Machine) (samples sums : List ℕ) (f : Fair m) (st : Holds m samp
     says : all (m .table .count) (λ k. all (m .width) (sumGood v k)) ≡ true
     says = all-good (m .table) (m .width) x a row samples sums (f .table) lies is found
 
-    replied : (after : Engine) (after′ : Machine) → replyOf (takenIn here after v out) ≡ replyOf (dueLeft (m .table) (m .width) x a out after′)
+    replied : (after : Scan) (after′ : Machine) → replyOf (takenIn here after v out) ≡ replyOf (dueLeft (m .table) (m .width) x a out after′)
     unfolding dueSaid dueLeft outputAfter
     replied after after′ = go (ltb a (delayOf (m .table))) (λ h. rw (le-ltb a (delayOf (m .table)) h) at (output-due (m .table) (m .width) x a row samples sums (f .table) lies is found h out)) (nltb→le a (delayOf (m .table)))
       where
@@ -129,7 +129,7 @@ module _ (m : Machine) (samples sums : List ℕ) (f : Fair m) (st : Holds m samp
     next long = stores-next (m .table) (m .width) x a row samples sums (f .table) lies is found long
 
     -- the machine after it, whichever it is
-    arrives : (after : Engine) (after′ : Machine) → Follows (world after (samplesAfter v) (sumsAfter v)) after′
+    arrives : (after : Scan) (after′ : Machine) → Follows (world after (samplesAfter v) (sumsAfter v)) after′
         → Agree (takenIn here after v out) (dueLeft (m .table) (m .width) x a out after′)
     unfolding dueLeft
     arrives after after′ k = (replied after after′, go (ltb a (delayOf (m .table))))
@@ -145,7 +145,7 @@ module _ (m : Machine) (samples sums : List ℕ) (f : Fair m) (st : Holds m samp
     abbrev more : List (List ℕ)
     more = m .rows ++ (row ∷ [])
 
-    abbrev x′ : Scan
+    abbrev x′ : Image
     x′ = scanned (m .width) more
 
     record Known : Type 0 where
@@ -212,7 +212,7 @@ module _ (m : Machine) (samples sums : List ℕ) (f : Fair m) (st : Holds m samp
     abbrev zeros : List ℕ
     zeros = tab (m .width) (λ k. 0)
 
-    abbrev x : Scan
+    abbrev x : Image
     x = scanned (m .width) (m .rows)
 
     lies : Lies (m .width) (m .table .b) x

@@ -16,7 +16,7 @@ use Rattle.arith.proofs.Sums.{sum-zero}
 use Rattle.layout.specs.declared.Table.{Table}
 use Rattle.layout.specs.Contents.{rect}
 use Rattle.layout.specs.Measure.{rowsOf, delayOf}
-use Rattle.rule.specs.Sums.{Scan, covered, columnSum}
+use Rattle.rule.specs.Sums.{Image, covered, columnSum}
 use Rattle.rule.proofs.Depends.{covered-most, lead-most, column-same}
 use Rattle.arrival.specs.Arrivals.{storesGood}
 use Rattle.arrival.proofs.Asked.{stores-bounds}
@@ -26,7 +26,7 @@ use Rattle.run.proofs.Kept.{kept-none}
 
 -- no arrival yet, and every column sum 0
 pub stores-none :
-    (t : Table) (l : ℕ) (x : Scan) (samples sums : List ℕ) → Lies l (t .b) x → storesGood l (t .count) (length samples) (length sums) ≡ true
+    (t : Table) (l : ℕ) (x : Image) (samples sums : List ℕ) → Lies l (t .b) x → storesGood l (t .count) (length samples) (length sums) ≡ true
     → Stores t l x 0 (zeroed (32 * l) samples) (zeroed (t .count * l) sums)
 unfolding columnSum
 stores-none t l x samples sums lies st =
@@ -50,7 +50,7 @@ stores-none t l x samples sums lies st =
 
 -- the stores after a arrivals say nothing of the rows from a on
 pub stores-agree :
-    (t : Table) (l : ℕ) (x y : Scan) (a : ℕ) (samples sums : List ℕ) → ((i : ℕ) (j : ℤ) → x (negsuc i) j ≡ y (negsuc i) j)
+    (t : Table) (l : ℕ) (x y : Image) (a : ℕ) (samples sums : List ℕ) → ((i : ℕ) (j : ℤ) → x (negsuc i) j ≡ y (negsuc i) j)
     → ((e : ℕ) (j : ℤ) → e < a → x (pos e) j ≡ y (pos e) j) → Stores t l x a samples sums → Stores t l y a samples sums
 unfolding Kept
 stores-agree t l x y a samples sums above agree st =

@@ -19,7 +19,7 @@ use Rattle.layout.specs.declared.Table.{Table}
 use Rattle.layout.specs.Contents.{rect}
 use Rattle.layout.specs.Measure.{delayOf}
 use Rattle.limits.specs.Limits.{acceptable}
-use Rattle.rule.specs.Sums.{Scan, columnSum}
+use Rattle.rule.specs.Sums.{Image, columnSum}
 use Rattle.rule.specs.Pixels.{pixelOf}
 use borrow.Author.Tests.{lt-ltb, le-ltb}
 use Rattle.arrival.specs.Arrivals.{Arrival, stored, newSum, sumGood, pixelAt, samplesAfter, sumsAfter, outputAfter}
@@ -27,7 +27,7 @@ use Rattle.run.specs.Holds.{Kept, Stores}
 use Rattle.run.proofs.Kept.{kept-next}
 use Rattle.run.proofs.Arrives.{Lies, Finds, pixel-is, sums-good, sums-next}
 
-module _ (t : Table) (l : ℕ) (x : Scan) (a : ℕ) (row samples sums : List ℕ) where
+module _ (t : Table) (l : ℕ) (x : Image) (a : ℕ) (row samples sums : List ℕ) where
   -- what arrives
   abbrev pub v : Arrival
   v = record { table = t; width = l; number = a; row = row; samples = samples; sums = sums }

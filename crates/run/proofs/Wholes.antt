@@ -18,7 +18,7 @@ use Rattle.layout.specs.Answers.{accepted, waiting, done, Left, left}
 use Rattle.layout.specs.Measure.{delayOf}
 use Rattle.layout.specs.Sequences.{Reply, reply, replyOf, replies, ended}
 use Rattle.rule.specs.Questions.{atMost}
-use Rattle.rule.specs.Sums.{Scan}
+use Rattle.rule.specs.Sums.{Image}
 use Rattle.rule.specs.Pixels.{pixelOf}
 use Rattle.scan.specs.Calls.{startOf}
 use Rattle.run.specs.Rows.{scanned, goodRows}
@@ -30,7 +30,7 @@ use Rattle.run.proofs.Later.{pixel-later}
 use Rattle.run.proofs.Sequences.{begins, sequence}
 
 -- an arrival leaves the machine that it is to leave, whether a row is due or not
-due-state : (t : Table) (l : ℕ) (x : Scan) (a : ℕ) (out : List ℤ) (m : Machine) → dueLeft t l x a out m .state ≡ m
+due-state : (t : Table) (l : ℕ) (x : Image) (a : ℕ) (out : List ℤ) (m : Machine) → dueLeft t l x a out m .state ≡ m
 unfolding dueLeft
 due-state t l x a out m = go (ltb a (delayOf t))
   where

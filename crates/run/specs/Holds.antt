@@ -11,7 +11,7 @@ use Rattle.layout.specs.Contents.{rect}
 use Rattle.layout.specs.Measure.{delayOf}
 use Rattle.limits.specs.Limits.{acceptable}
 use Rattle.rule.specs.Questions.{widthGood}
-use Rattle.rule.specs.Sums.{Scan, columnSum}
+use Rattle.rule.specs.Sums.{Image, columnSum}
 use Rattle.arrival.specs.Arrivals.{storesGood}
 
 -- what starting accepts: a table that loading accepts, a width from 1 to 1,024, and stores long enough, whatever they hold
@@ -21,11 +21,11 @@ pub record Starts (t : Table) (l : ℕ) (samples sums : List ℕ) : Type 0 where
   pub stores : storesGood l (t .count) (length samples) (length sums) ≡ true
 
 -- the sample store holds each of the last 32 of a arrivals from its place on
-unfoldable pub Kept : (l : ℕ) → Scan → (a : ℕ) → List ℕ → Type 0
+unfoldable pub Kept : (l : ℕ) → Image → (a : ℕ) → List ℕ → Type 0
 Kept l x a samples = (e c : ℕ) → e < a → a ≤ e + 32 → c < l → getD samples (e % 32 * l + c) 0 ≡ x (pos e) (pos c)
 
 -- the stores after a arrivals of x: the sum store holds the column sums of the last of them, row a - 1 - D, at k·L + c
-pub record Stores (t : Table) (l : ℕ) (x : Scan) (a : ℕ) (samples sums : List ℕ) : Type 0 where
+pub record Stores (t : Table) (l : ℕ) (x : Image) (a : ℕ) (samples sums : List ℕ) : Type 0 where
   pub samples-long : 32 * l ≤ length samples
   pub sums-long : t .count * l ≤ length sums
   pub kept : Kept l x a samples

@@ -7,7 +7,7 @@ use lib.Dec.{eqb}
 use lib.ListN.{length, take, drop}
 use Rattle.arith.specs.All.{all}
 use Rattle.rule.specs.Questions.{atMost}
-use Rattle.rule.specs.Sums.{Scan, sampleAt}
+use Rattle.rule.specs.Sums.{Image, sampleAt}
 
 -- rows one after the other
 unfoldable pub flat : List (List ℕ) → List ℕ
@@ -15,7 +15,7 @@ flat [] = []
 flat (row ∷ rows) = row ++ flat rows
 
 -- the scan of these rows: zeros after the last of them
-abbrev pub scanned : (l : ℕ) → (rows : List (List ℕ)) → Scan
+abbrev pub scanned : (l : ℕ) → (rows : List (List ℕ)) → Image
 scanned l rows = sampleAt l (flat rows)
 
 -- rows of l samples of b bits each

@@ -11,7 +11,7 @@ use Rattle.layout.specs.declared.Table.{Table}
 use Rattle.layout.specs.Answers.{refused, accepted, waiting, done, Question, asks, asksEach, firstNo, Left, left}
 use Rattle.layout.specs.Measure.{delayOf}
 use Rattle.rule.specs.Questions.{atMost}
-use Rattle.rule.specs.Sums.{Scan}
+use Rattle.rule.specs.Sums.{Image}
 use Rattle.rule.specs.Pixels.{pixelOf}
 use Rattle.scan.specs.Calls.{World, rowOf, closeOf, stepOf}
 use Rattle.burst.specs.Bursts.{allRows, noRows, burstOf}
@@ -51,7 +51,7 @@ abbrev pub machine : Table → (width : ℕ) → (rows : List (List ℕ)) → (s
 machine t l rows steps closed = record { table = t; width = l; rows = rows; steps = steps; closed = closed }
 
 -- arrival a of a scan x: waiting before arrival D, then row a - D by the pixel rule in the first L places of the output
-unfoldable pub dueLeft : Table → (l : ℕ) → (x : Scan) → (a : ℕ) → (out : List ℤ) → (after : Machine) → Left Machine
+unfoldable pub dueLeft : Table → (l : ℕ) → (x : Image) → (a : ℕ) → (out : List ℤ) → (after : Machine) → Left Machine
 dueLeft t l x a out after =
     cond (ltb a (delayOf t)) (left waiting after out)
     (left (accepted (pos (a - delayOf t) ∷ [])) after (tab l (λ c. pixelOf t x (pos (a - delayOf t)) (pos c)) ++ drop l out))

@@ -11,7 +11,7 @@ use Rattle.layout.specs.declared.Table.{Table}
 use Rattle.layout.specs.Answers.{accepted, waiting, done}
 use Rattle.layout.specs.Measure.{delayOf}
 use Rattle.layout.specs.Sequences.{Reply, reply}
-use Rattle.rule.specs.Sums.{Scan}
+use Rattle.rule.specs.Sums.{Image}
 use Rattle.rule.specs.Pixels.{pixelOf}
 use Rattle.run.specs.Rows.{scanned}
 use Rattle.run.specs.Sequences.{Call, rowCall, rowsCall, closeCall, stepCall, Machine}
@@ -32,13 +32,13 @@ wholeCalls t outs rows =
     ++ (closeCall ∷ (stepCalls outs (length rows) (delayOf t) ++ (stepCall (outs (length rows + delayOf t)) ∷ [])))
 
 -- what arrival a is answered: waiting before arrival D, then row a - D by the pixel rule on the whole scan
-unfoldable pub dueReply : Table → (l : ℕ) → (x : Scan) → (outs : ℕ → List ℤ) → (a : ℕ) → Reply
+unfoldable pub dueReply : Table → (l : ℕ) → (x : Image) → (outs : ℕ → List ℤ) → (a : ℕ) → Reply
 dueReply t l x outs a =
     cond (ltb a (delayOf t)) (reply waiting (outs a))
     (reply (accepted (pos (a - delayOf t) ∷ [])) (tab l (λ c. pixelOf t x (pos (a - delayOf t)) (pos c)) ++ drop l (outs a)))
 
 -- the replies to n arrivals from arrival a on
-unfoldable pub dueReplies : Table → (l : ℕ) → (x : Scan) → (outs : ℕ → List ℤ) → (a n : ℕ) → List Reply
+unfoldable pub dueReplies : Table → (l : ℕ) → (x : Image) → (outs : ℕ → List ℤ) → (a n : ℕ) → List Reply
 dueReplies t l x outs a zero = []
 dueReplies t l x outs a (suc n) = dueReply t l x outs a ∷ dueReplies t l x outs (suc a) n
 
