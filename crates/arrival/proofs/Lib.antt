@@ -1,7 +1,4 @@
-pub mod Answered
 pub mod Asked
-pub mod Places
-pub mod Moves
 pub mod Lines
 pub mod Delays
 pub mod Carries

@@ -22,7 +22,8 @@ use Rattle.layout.specs.Measure.{rowsOf, colsOf}
 use Rattle.limits.proofs.Bounds.{Edges, extent}
 use Rattle.rule.proofs.Frame.{covered-frame}
 use Rattle.arrival.specs.Arrivals.{sumMost}
-use Rattle.arrival.specs.Passes.{lineFrom, lineSum, placed, scaledLine, weighed}
+use Rattle.passes.specs.Passes.{window, plus}
+use Rattle.arrival.specs.Rectangles.{lineFrom, lineSum, withLine}
 
 -- one integer as two differences
 diff-same : {z : ℤ} {p n q m : ℕ} → Diff z p n → Diff z q m → p + m ≡ q + n
@@ -46,6 +47,10 @@ line-at line z p l = go (ltb p 128) (ltb→lt p 128) (nltb→le p 128)
     go : (c : Bool) → (T c → p < 128) → (T (not c) → 128 ≤ p) → lineFrom line (subℕ p 128) ≡ getD line (p - 112) 0
     go true f g = let h = f tt in ap (lineFrom line) (sub-low p 128 h) ∙ sym (z (p - 112) (omega arith))
     go false f g = let h = g tt in ap (lineFrom line) (sub-high p 128 h) ∙ ap (λ i. getD line i 0) (omega arith)
+
+-- the truncated rectangle sum, scaled back, by places of the line
+abbrev pub scaledLine : List ℕ → (base n q3 q c : ℕ) → ℕ
+scaledLine line base n q3 q c = window line base n c / 2 ^ q3 * 2 ^ q
 
 -- the windows by place are those of the rule, where the trail column is b - 128
 pub line-sum : (t : Table) (d : Rect) (line : List ℕ) (b c : ℕ) → ((i : ℕ) → i < 16 → getD line i 0 ≡ 0) → Diff (d .trailcol) b 128 → 112 ≤ b
@@ -83,18 +88,18 @@ cut-le w n m a p q r h l =
 pub window-le : (t : Table) (d : Rect) (line : List ℕ) (base c : ℕ) → t .q1 < t .b → t .b ≤ 12 → rowsOf d ≤ 31 → colsOf d ≤ 31
     → ((i : ℕ) → getD line i 0 ≤ sumMost t d / 2 ^ t .q2) → scaledLine line base (colsOf d) (t .q3) (t .q1 + t .q2 + t .q3) c < 4194304
 window-le t d line base c h l r n g =
-    let w = placed line base (colsOf d) c in
+    let w = window line base (colsOf d) c in
     let s = sum-bound (colsOf d) (sumMost t d / 2 ^ t .q2) {f = λ j. getD line (base + c + j) 0} (λ j k. g (base + c + j)) in
     let x = cut-le w (colsOf d) (sumMost t d) 126976 (2 ^ t .q1) (2 ^ t .q2) (2 ^ t .q3) s (most-le t d h l r) in
     rw (pow-add 2 (t .q1 + t .q2) (t .q3), pow-add 2 (t .q1) (t .q2)) (omega arith)
 
 -- a pass over the places by such windows
-pub weighed-line :
+pub line-values :
     (t : Table) (d : Rect) (line acc : List ℕ) (width b n above below : ℕ) → ((i : ℕ) → i < 16 → getD line i 0 ≡ 0) → Diff (d .trailcol) b 128 → 112 ≤ b
     → n ≡ colsOf d → above ≡ posPart (d .weight) → below ≡ negPart (d .weight)
-    → tab width (λ c. getD acc c 0 + above * scaledLine line (b - 111) n (t .q3) (t .q1 + t .q2 + t .q3) c - below * scaledLine line (b - 111) n (t .q3) (t .q1 + t .q2 + t .q3) c)
-    ≡ tab width (weighed t d line acc)
-weighed-line t d line acc width b n above below z e l en ea eb =
+    → tab width (λ c. plus (getD acc c 0) above below (scaledLine line (b - 111) n (t .q3) (t .q1 + t .q2 + t .q3) c))
+    ≡ tab width (withLine t d line acc)
+line-values t d line acc width b n above below z e l en ea eb =
     tab-cong width (λ c h. rw (ea, eb, en, line-sum t d line b c z e l))
 
 -- of the two parts of an integer one is 0

@@ -1,40 +1,35 @@
 -- What an arrival that passes question 19 leaves.
 -- Assumes nothing.
-use Prim.Native.Nat.{ℕ, suc, _+_, _-_, _*_, _/_, _^_, _≤_, _<_, zero-le}
-use native.Mathlib.Nat.{le-trans, le-of-eq, mul-le-mul-left, div-one, mul-assoc}
+use Prim.Native.Nat.{ℕ, _+_, _-_, _*_, _/_, _^_, _≤_, _<_, zero-le}
+use native.Mathlib.Nat.{le-of-eq, mul-le-mul-left}
 use native.Mathlib.Omega.{arith}
-use mathlib.Core.Path.{_≡_, refl, sym, ap, ap₂, _∙_, subst}
-use mathlib.Core.Bool.{Bool, true, false, not, cond}
-use mathlib.Core.List.{List, _++_, append-nil, append-assoc}
-use lib.Dec.{T, ltb, ltb→lt, nltb→le}
-use lib.IntN.{ℤ, pos, negsuc, subℕ, _*ℤ_}
-use lib.ListN.{length, getD, take, drop, replicate, length-drop, length-replicate, getD-replicate}
+use mathlib.Core.Path.{_≡_, refl, sym, ap, subst}
+use mathlib.Core.Bool.{Bool, true, false, cond}
+use mathlib.Core.List.{List}
+use lib.Dec.{T, ltb, ltb→lt}
+use lib.IntN.{ℤ, pos, negsuc}
+use lib.ListN.{getD, replicate, length-replicate, getD-replicate}
 use lib.Pow.{pow-add, shr-mono, ones-split}
-use lib.Seq.{drop-drop, length-take-le}
-use borrow.Rule.Slice.PartMut.{putMid}
-use Rattle.arith.specs.Sum.{sum, sumℤ}
+use Rattle.arith.specs.Sum.{sumℤ}
 use Rattle.arith.specs.All.{all}
-use Rattle.arith.specs.Diff.{Diff}
 use Rattle.arith.specs.Floor.{floorDiv}
-use Rattle.arith.specs.Tab.{tab, paste}
 use Rattle.arith.specs.Twos.{fitsSigned}
 use Rattle.arith.proofs.Sums.{sum-bound}
 use Rattle.arith.proofs.Ints.{diff-sub, diff-eq}
-use Rattle.arith.proofs.Tabs.{tab-getD}
 use Rattle.arith.proofs.Words.{fits-widen}
 use Rattle.layout.specs.declared.Rect.{Rect}
 use Rattle.layout.specs.declared.Table.{Table}
 use Rattle.layout.specs.Contents.{rect}
 use Rattle.layout.specs.Measure.{rowsOf, colsOf}
 use Rattle.limits.specs.Limits.{acceptable}
-use Rattle.limits.proofs.Granted.{Granted, granted}
+use Rattle.limits.proofs.Granted.{granted}
 use Rattle.rule.specs.Sums.{covered}
 use Rattle.rule.proofs.Fitting.{value-fits}
 use Rattle.arrival.specs.Arrivals.{Arrival, newSum, sumMost, sumGood, lineAt, windowAt, scaledAt, pixelAt}
-use Rattle.arrival.specs.Passes.{Weighed}
+use Rattle.passes.specs.Passes.{bias, rounded}
+use Rattle.arrival.specs.Rectangles.{Accumulated}
 use Rattle.arrival.proofs.Lines.{cut-le}
-use Rattle.arrival.proofs.Carries.{good-at, pass-whole}
-use Rattle.arrival.proofs.Places.{part-length}
+use Rattle.arrival.proofs.Carries.{good-at}
 
 -- ---- values
 
@@ -69,37 +64,26 @@ scaled-most v k c h g =
     rw (pow-add 2 (t .q1 + t .q2) (t .q3), pow-add 2 (t .q1) (t .q2)) (omega arith)
 
 -- the accumulator at the start, and at the end
-pub weighed-none : (v : Arrival) → v .width ≤ 1024 → Weighed v 0 (replicate 1024 2199023255552)
+pub accumulated-none : (v : Arrival) → v .width ≤ 1024 → Accumulated v 0 (replicate 1024 bias)
 unfolding sumℤ
-weighed-none v l =
-    let e : (c : ℕ) → c < v .width → _≡_ {A = ℕ} (getD (replicate 1024 2199023255552) c 0) 2199023255552 = λ c h. getD-replicate 1024 c 2199023255552 0 (omega arith) in
+accumulated-none v l =
+    let e : (c : ℕ) → c < v .width → _≡_ {A = ℕ} (getD (replicate 1024 bias) c 0) bias = λ c h. getD-replicate 1024 c bias 0 (omega arith) in
     record {
-      long = le-of-eq (sym (length-replicate {A = ℕ} 1024 2199023255552));
+      long = le-of-eq (sym (length-replicate {A = ℕ} 1024 bias));
       value = λ c h. rw (e c h) (record { is = refl });
       low = λ c h. rw (e c h) (omega arith);
       high = λ c h. rw (e c h) (omega arith);
     }
 
-pub settles : (v : Arrival) (acc : List ℕ) → Weighed v (v .table .count) acc → (c : ℕ) → c < v .width
-    → floorDiv (subℕ (getD acc c 0) 2199023255552) (v .table .t) ≡ pixelAt v c
+pub rounds : (v : Arrival) (acc : List ℕ) → Accumulated v (v .table .count) acc → (c : ℕ) → c < v .width
+    → rounded (getD acc c 0) (v .table .t) ≡ pixelAt v c
 unfolding pixelAt
-settles v acc w c h = ap (λ z. floorDiv z (v .table .t)) (diff-eq (diff-sub (getD acc c 0) 2199023255552) (w .value c h) refl)
+rounds v acc w c h = ap (λ z. floorDiv z (v .table .t)) (diff-eq (diff-sub (getD acc c 0) bias) (w .value c h) refl)
 
-pub settles-word : (v : Arrival) (acc : List ℕ) → acceptable (v .table) ≡ true → ((k : ℕ) → k < v .table .count → T (all (v .width) (sumGood v k)))
-    → Weighed v (v .table .count) acc → (c : ℕ) → c < v .width → T (fitsSigned 32 (floorDiv (subℕ (getD acc c 0) 2199023255552) (v .table .t)))
+pub rounds-word : (v : Arrival) (acc : List ℕ) → acceptable (v .table) ≡ true → ((k : ℕ) → k < v .table .count → T (all (v .width) (sumGood v k)))
+    → Accumulated v (v .table .count) acc → (c : ℕ) → c < v .width → T (fitsSigned 32 (rounded (getD acc c 0) (v .table .t)))
 unfolding pixelAt
-settles-word v acc a good w c h =
+rounds-word v acc a good w c h =
     let g = granted (v .table) a in
     let q : v .table .q1 ≤ v .table .b = let l = g .q1-less in omega arith in
-    rw (settles v acc w c h) (fits-widen (v .table .w) 32 _ (g .word-most) (value-fits (v .table) a (λ k. scaledAt v k c) (λ k l. scaled-most v k c q (good k l))))
-
--- ---- the kept row
-
--- the arriving row, copied into its place
-pub keeps : (p l : ℕ) (row xs : List ℕ) → length row ≡ l → p + l ≤ length xs
-    → putMid p l xs (tab l (λ c. getD row c 0) ++ drop l (take (p + l - p) (drop p xs))) ≡ paste p row xs
-unfolding paste
-keeps p l row xs e h =
-    let r : tab l (λ c. getD row c 0) ++ drop l (take (p + l - p) (drop p xs)) ≡ row =
-    pass-whole l (take (p + l - p) (drop p xs)) {f = λ c. getD row c 0} {g = λ c. getD row c 0} (part-length p l xs h) (λ c i. refl) ∙ tab-getD row l 0 e in
-    rw (r, e, drop-drop l p xs) (sym (append-assoc (take p xs) row (drop (p + l) xs)))
+    rw (rounds v acc w c h) (fits-widen (v .table .w) 32 _ (g .word-most) (value-fits (v .table) a (λ k. scaledAt v k c) (λ k l. scaled-most v k c q (good k l))))

@@ -12,7 +12,7 @@ use lib.ListN.{length}
 use Rattle.layout.specs.declared.Verdict.{Verdict}
 use Rattle.layout.specs.declared.Verdict.the-variants.{Accepted, Refused}
 use Rattle.arrival.specs.Arrivals.{by}
-use Rattle.arrival.proofs.Places.{line-end}
+use Rattle.arith.proofs.Parts.{line-end}
 use Rattle.scan.specs.declared.Scan.{Scan}
 use Rattle.scan.specs.Calls.{agrees, rowAsked, rowSays, rowAnswer}
 use Rattle.limits.proofs.Asked.{ask-accepted}

@@ -1,6 +1,6 @@
 use Rattle.scan.proofs.States.{agreed}
 use Rattle.scan.specs.Calls.{agrees}
-use Rattle.arrival.proofs.Answered.{yes, no}
+use Rattle.arith.proofs.Bools.{yes, no}
 use Rattle.rule.proofs.Asked.{width-bounds}
 use Rattle.burst.specs.Bursts.{burstAsked}
 use borrow.Author.Tests.{le-leb, lt-leb, eq-eqb, ne-eqb}
