@@ -12,8 +12,8 @@ use lib.Seq.{getD-append-add, getD-drop}
 use borrow.Rule.Slice.PartMut.{putMid, put-same}
 use Rattle.arith.specs.Tab.{tab, grid}
 use Rattle.arith.proofs.Tabs.{tab-cong, getD-tab, length-tab}
-use Rattle.arith.proofs.Passes.{length-grid, grid-suc, grid-none, grid-line}
-use Rattle.arith.proofs.Parts.{part-tab}
+use Rattle.arith.proofs.Passes.{length-grid, grid-suc, grid-none, grid-line, pass-whole}
+use Rattle.arith.proofs.Parts.{part, part-length, part-tab}
 
 -- a line that a pass of whole lines has not reached
 pub grid-next : (k l : ℕ) (f : ℕ → ℕ → ℕ) (xs : List ℕ) (c : ℕ) → getD (grid k l f ++ drop (k * l) xs) (k * l + c) 0 ≡ getD xs (k * l + c) 0
@@ -55,3 +55,10 @@ pub next-line : (k l : ℕ) (f : ℕ → ℕ → ℕ) (xs : List ℕ) {now : Lis
     → putMid (k * l) l now (tab l g) ≡ grid (k + 1) l f ++ drop ((k + 1) * l) xs
 next-line k l f xs {now} {g} e h =
     rw (add-one k) (ap (λ ys. putMid (k * l) l ys (tab l g)) e ∙ grid-line k l f xs (tab l g) (tab-cong l (λ c i. h c)))
+
+-- a line that is lent, `&mut s[p..p + l]`, and comes back from a pass over it
+pub line-written : (p l : ℕ) (xs : List ℕ) {ys : List ℕ} {f g : ℕ → ℕ} → p + l ≤ length xs → ys ≡ tab l f ++ drop l (part p l xs)
+    → ((c : ℕ) → c < l → f c ≡ g c) → putMid p (p + l - p) xs ys ≡ putMid p l xs (tab l g)
+line-written p l xs h e i =
+    let n : p + l - p ≡ l = omega arith in
+    ap₂ (λ j ys. putMid p j xs ys) n (e ∙ pass-whole l (part p l xs) (part-length p l xs h) i)

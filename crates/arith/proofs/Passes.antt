@@ -30,7 +30,8 @@ module _ {A : Type 0} where
       let l = length-tab n f in
       let e : k ≡ length (tab n f) + (k - n) = omega arith in
       let m : n + (k - n) ≡ k = omega arith in
-      ap (λ i. getD (tab n f ++ drop n xs) i d) e ∙ getD-append-add (tab n f) (drop n xs) (k - n) d ∙ getD-drop n xs (k - n) d ∙ ap (λ i. getD xs i d) m
+      ap (λ i. getD (tab n f ++ drop n xs) i d) e ∙ getD-append-add (tab n f) (drop n xs) (k - n) d
+      ∙ getD-drop n xs (k - n) d ∙ ap (λ i. getD xs i d) m
 
   -- a place that it has passed
   pub pass-done : (n : ℕ) (f : ℕ → A) (xs : List A) (k : ℕ) (d : A) → k < n → getD (tab n f ++ drop n xs) k d ≡ f k

@@ -11,10 +11,10 @@ use lib.ListN.{length}
 use borrow.Author.Tests.{le-leb, lt-leb}
 use mir.Facts.{and-yes}
 use Rattle.arith.proofs.Bools.{true-of}
-use Rattle.layout.specs.declared.Table.{Table}
 use Rattle.layout.specs.Measure.{delayOf}
-use Rattle.arrival.specs.Arrivals.{Arrival, arriving, storesGood, Fits}
+use Rattle.arrival.specs.Arrivals.{Arrival, storesGood, Fits}
 use Rattle.arrival.specs.Rectangles.{Zeros, StepFits}
+use Rattle.arrival.proofs.Carries.{withSums}
 use Rattle.arrival.proofs.Delays.{delay-most}
 
 -- n holds k·l where n / k holds l
@@ -65,6 +65,5 @@ steps-fit {v} f d z =
 
 -- and with other sums, as many
 pub steps-still-fit :
-    {t : Table} {l a delay : ℕ} {row samples sums sums′ zeros : List ℕ} → StepFits (arriving t l a row samples sums) delay zeros
-    → length sums′ ≡ length sums → StepFits (arriving t l a row samples sums′) delay zeros
+    {v : Arrival} {delay : ℕ} {now zeros : List ℕ} → StepFits v delay zeros → length now ≡ length (v .sums) → StepFits (withSums v now) delay zeros
 steps-still-fit f e = record { table = f .table; delay-is = f .delay-is; edges = f .edges; sums-long = rw e (f .sums-long) }

@@ -2,6 +2,7 @@ pub mod Asked
 pub mod Lines
 pub mod Delays
 pub mod Carries
+pub mod Columns
 pub mod Parts
 pub mod Taken
 pub mod Theorems

@@ -1,4 +1,4 @@
--- One rectangle at an arrival: its line of cut column sums, and the values with its part.
+-- One rectangle at an arrival: its line of truncated column sums, and the values with its part.
 -- Assumes nothing.
 use Prim.Native.Nat.{ℕ, zero, suc, _+_, _-_, _*_, _/_, _^_, _≤_, _<_, zero-le}
 use native.Mathlib.Omega.{arith}
@@ -29,9 +29,9 @@ use Rattle.layout.specs.Measure.{colsOf}
 use Rattle.limits.specs.Limits.{acceptable}
 use Rattle.limits.proofs.Granted.{granted}
 use Rattle.rule.specs.Sums.{covered}
-use Rattle.arrival.specs.Arrivals.{Arrival, leaving, entering, stored, newSum, sumMost, sumGood, lineAt, windowAt, scaledAt}
-use Rattle.passes.specs.Passes.{movable, stepped, bias, valueMost, partMost, scaledEnd}
-use Rattle.arrival.specs.Rectangles.{updatedSum, lineFrom, lineSum, withLine, withPart, Accumulated, ZeroPadded, Zeros}
+use Rattle.arrival.specs.Arrivals.{Arrival, newSum, sumMost, sumGood, lineAt, windowAt, scaledAt}
+use Rattle.passes.specs.Passes.{bias, valueMost, partMost, scaledEnd}
+use Rattle.arrival.specs.Rectangles.{lineFrom, lineSum, withLine, withPart, Accumulated, ZeroPadded, Zeros}
 use Rattle.arrival.proofs.Taken.{line-most, scaled-most}
 
 -- ---- the line
@@ -84,7 +84,7 @@ padded-none w = record { places = length-replicate {A = ℕ} 1056 0; before = λ
 pub zeros-none : Zeros (replicate 1024 0)
 zeros-none = record { long = length-replicate {A = ℕ} 1024 0; none = zero-at 1024 }
 
--- the cut column sums of rectangle k from place 16 on, and zeros elsewhere
+-- the truncated column sums of rectangle k from place 16 on, and zeros elsewhere
 pub record Lined (v : Arrival) (k : ℕ) (line : List ℕ) : Type 0 where
   pub before : (i : ℕ) → i < 16 → getD line i 0 ≡ 0
   pub column : (j : ℤ) → lineFrom line j ≡ lineAt v k j / 2 ^ v .table .q2
@@ -98,30 +98,17 @@ lined v k line ys padded e = record { before = before-column line ys (v .width) 
     few : length ys ≡ v .width
     few = ap length e ∙ length-tab (v .width) _
 
-    at : (j : ℕ) (c : Bool) → (T c → j < v .width) → (T (not c) → v .width ≤ j) → getD (putMid 16 (16 + v .width - 16) line ys) (16 + j) 0 ≡ cond c (newSum v k j) 0 / 2 ^ v .table .q2
+    at :
+        (j : ℕ) (c : Bool) → (T c → j < v .width) → (T (not c) → v .width ≤ j)
+        → getD (putMid 16 (16 + v .width - 16) line ys) (16 + j) 0 ≡ cond c (newSum v k j) 0 / 2 ^ v .table .q2
     at j true y n =
-        in-column line ys (v .width) padded few j (y tt) ∙ ap (λ xs. getD xs j 0) e ∙ getD-tab (v .width) (λ c. newSum v k c / 2 ^ v .table .q2) j 0 (y tt)
+        in-column line ys (v .width) padded few j (y tt) ∙ ap (λ xs. getD xs j 0) e
+        ∙ getD-tab (v .width) (λ c. newSum v k c / 2 ^ v .table .q2) j 0 (y tt)
     at j false y n = after-column line ys (v .width) padded few j (n tt) ∙ sym (zero-div (2 ^ v .table .q2))
 
     column : (j : ℤ) → lineFrom (putMid 16 (16 + v .width - 16) line ys) j ≡ lineAt v k j / 2 ^ v .table .q2
     column (pos j) = at j (ltb j (v .width)) (ltb→lt j (v .width)) (nltb→le j (v .width))
     column (negsuc j) = sym (zero-div (2 ^ v .table .q2))
-
--- question 19 of a column, and its new sum where it holds, by what the passes read
-module _
-    (v : Arrival) (k c : ℕ) {s off on bound : ℕ} (es : s ≡ stored v k c) (eo : off ≡ leaving v k c) (en : on ≡ entering v k c)
-    (eb : bound ≡ sumMost (v .table) (rect (v .table) k)) where
-  pub movable-good : movable s off on bound ≡ sumGood v k c
-  unfolding sumGood newSum
-  movable-good = rw (es, eo, en, eb)
-
-  pub new-sum : s - off + on ≡ newSum v k c
-  unfolding newSum
-  new-sum = rw (es, eo, en)
-
-  pub updated-sum : stepped s off on ≡ updatedSum v k c
-  unfolding updatedSum
-  updated-sum = rw (es, eo, en)
 
 -- where question 19 holds, each place is within the bound
 module _ (v : Arrival) (k : ℕ) (good : T (all (v .width) (sumGood v k))) where
@@ -157,7 +144,9 @@ parts-le (pos n) t = let m = fits-mag 16 (pos n) t in (omega arith, zero-le)
 parts-le (negsuc n) t = let m = fits-mag 16 (negsuc n) t in (zero-le, omega arith)
 
 -- the scaled sum that a rectangle adds is below 2^22
-scaled-lt : (v : Arrival) (k : ℕ) → acceptable (v .table) ≡ true → k < v .table .count → T (all (v .width) (sumGood v k)) → (c : ℕ) → scaledAt v k c < scaledEnd
+scaled-lt :
+    (v : Arrival) (k : ℕ) → acceptable (v .table) ≡ true → k < v .table .count → T (all (v .width) (sumGood v k))
+    → (c : ℕ) → scaledAt v k c < scaledEnd
 scaled-lt v k e h good c =
     let g = granted (v .table) e in
     let b = g .bounds k h in
@@ -171,7 +160,9 @@ few-below : (v : Arrival) (k : ℕ) → acceptable (v .table) ≡ true → k < v
 few-below v k e h = let f = granted (v .table) e .few in omega arith
 
 -- the values leave room for a rectangle more
-module _ (v : Arrival) (k : ℕ) (e : acceptable (v .table) ≡ true) (h : k < v .table .count) {acc : List ℕ} (w : Accumulated v k acc) (c : ℕ) (p : c < v .width) where
+module _
+    (v : Arrival) (k : ℕ) (e : acceptable (v .table) ≡ true) (h : k < v .table .count) {acc : List ℕ} (w : Accumulated v k acc)
+    (c : ℕ) (p : c < v .width) where
   pub accumulated-least : partMost ≤ getD acc c 0
   accumulated-least = let f = few-below v k e h in let a = w .low c p in omega arith
 

@@ -59,8 +59,11 @@ unfolding scaledAt windowAt
 scaled-most v k c h g =
     let t = v .table in
     let d = rect t k in
-    let s = sum-bound (colsOf d) (sumMost t d / 2 ^ t .q2) {f = λ j. lineAt v k (covered (pos c) (d .trailcol) j) / 2 ^ t .q2} (λ j l. shr-mono (t .q2) (line-most v k g _)) in
-    let x = cut-le (windowAt v k c) (colsOf d) (sumMost t d) (rowsOf d * (2 ^ t .b - 1)) (2 ^ t .q1) (2 ^ t .q2) (2 ^ t .q3) s (most-scaled t d h) in
+    let s =
+    sum-bound (colsOf d) (sumMost t d / 2 ^ t .q2) {f = λ j. lineAt v k (covered (pos c) (d .trailcol) j) / 2 ^ t .q2}
+    (λ j l. shr-mono (t .q2) (line-most v k g _)) in
+    let x =
+    cut-le (windowAt v k c) (colsOf d) (sumMost t d) (rowsOf d * (2 ^ t .b - 1)) (2 ^ t .q1) (2 ^ t .q2) (2 ^ t .q3) s (most-scaled t d h) in
     rw (pow-add 2 (t .q1 + t .q2) (t .q3), pow-add 2 (t .q1) (t .q2)) (omega arith)
 
 -- the accumulator at the start, and at the end
@@ -86,4 +89,5 @@ unfolding pixelAt
 rounds-word v acc a good w c h =
     let g = granted (v .table) a in
     let q : v .table .q1 ≤ v .table .b = let l = g .q1-less in omega arith in
-    rw (rounds v acc w c h) (fits-widen (v .table .w) 32 _ (g .word-most) (value-fits (v .table) a (λ k. scaledAt v k c) (λ k l. scaled-most v k c q (good k l))))
+    rw (rounds v acc w c h)
+    (fits-widen (v .table .w) 32 _ (g .word-most) (value-fits (v .table) a (λ k. scaledAt v k c) (λ k l. scaled-most v k c q (good k l))))

@@ -2,7 +2,7 @@
 -- ring holds the row, the sums are the new ones, and each value is the pixel of its column.
 -- Assumes nothing.
 use mathlib.Core.List.{List, _++_}
-use mathlib.Core.Bool.{true}
+use mathlib.Core.Bool.{Bool, true}
 use lib.IntN.{ℤ}
 use Rattle.arith.proofs.Parts.{line-end}
 use Rattle.arrival.proofs.Carries.{all-back}
@@ -32,16 +32,23 @@ abbrev start : tie.After-values → tie.Start
 start c = c .before .before .before .before .before .before .before .before .before
 
 abbrev arrived : tie.After-values → Arrival
-arrived c = arriving (start c .args .t) (start c .args .width) (start c .args .number) (start c .args .row .now) (start c .args .samples .now) (start c .args .sums .now)
+arrived c = let a = start c .args in arriving (a .t) (a .width) (a .number) (a .row .now) (a .samples .now) (a .sums .now)
 
-good : (c : tie.Else1) → T (all (start (c .before .before .before .before .before) .args .t .count) (λ k. all (start (c .before .before .before .before .before) .args .width) (sumGood (arrived (c .before .before .before .before .before)) k)))
-good c =
-    let w = c .before .before .before .before .before in
-    let v = arrived w in
-    first-beyond (v .table .count) (λ k. all (v .width) (sumGood v k)) (subst (λ n. v .table .count ≤ n) (w .values .ensures .first) (c .if1 .left))
+-- question 19 of each rectangle of an arrival
+abbrev passes : Arrival → Bool
+passes v = all (v .table .count) (λ k. all (v .width) (sumGood v k))
 
 -- where no rectangle failed
-accepted : (c : tie.Else1) → all (start (c .before .before .before .before .before) .args .t .count) (λ k. all (start (c .before .before .before .before .before) .args .width) (sumGood (arrived (c .before .before .before .before .before)) k)) ≡ true
+abbrev taken : tie.Else1 → Arrival
+taken c = arrived (c .before .before .before .before .before)
+
+good : (c : tie.Else1) → T (passes (taken c))
+good c =
+    let v = taken c in
+    first-beyond (v .table .count) (λ k. all (v .width) (sumGood v k))
+    (subst (λ n. v .table .count ≤ n) (c .before .before .before .before .before .values .ensures .first) (c .if1 .left))
+
+accepted : (c : tie.Else1) → passes (taken c) ≡ true
 accepted c = true-of _ (good c)
 
 same-leaves : {v : Verdict} {samples samples′ sums sums′ : List ℕ} {out out′ : List ℤ} → samples ≡ samples′ → sums ≡ sums′ → out ≡ out′
@@ -53,12 +60,11 @@ back : (c : tie.After-roll-back-first) → c .roll-back-first .last .0 ≡ start
 back c =
     let f = c .before .before .before .before in
     let w = f .before .before .before .before .before in
-    let z = start w in
-    let n = w .values .result + 1 in
-    let small : (i : ℕ) → getD (z .args .sums .now) i 0 < 4294967296 = λ i. w .before .before .before .before .before .before .slice-known2 .given i .fits in
-    let l = line-end (w .values .result) (z .args .t .count) (z .args .width) (length (z .args .sums .now)) (f .if1 .taken) (z .pre .sums-long) in
-    c .roll-back-first .ensures
-    ∙ all-back (z .args .t) (z .args .width) (z .args .number) (z .args .row .now) (z .args .samples .now) (z .args .sums .now) n small (w .values .ensures .refused (f .if1 .taken)) (omega arith)
+    let v = arrived w in
+    let known = w .before .before .before .before .before .before .slice-known2 in
+    let small : (i : ℕ) → getD (v .sums) i 0 < 4294967296 = λ i. known .given i .fits in
+    let l = line-end (w .values .result) (v .table .count) (v .width) (length (v .sums)) (f .if1 .taken) (start w .pre .sums-long) in
+    c .roll-back-first .ensures ∙ all-back v (w .values .result + 1) small (w .values .ensures .refused (f .if1 .taken)) (omega arith)
 
 -- the arriving row in its place
 kept : (m : tie.After-keep) → let w = m .before .before .before .before .before .before .before in m .keep .last .0 ≡ samplesAfter (arrived w)
@@ -96,10 +102,8 @@ roll-back-first-requires c κs =
     let w = f .before .before .before .before .before in
     let z = start w in
     let t = f .if1 .taken in
-    (
-      steps-still-fit (steps-fit (z .pre) (w .before .before .before .before .before .delay .ensures) zeros-none) (w .values .kept .1 .1 .1 .1 .1 .1 .1 .0),
-      omega arith,
-    )
+    let d = w .before .before .before .before .before .delay .ensures in
+    (steps-still-fit (steps-fit (z .pre) d zeros-none) (w .values .kept .1 .1 .1 .1 .1 .1 .1 .0), omega arith)
 
 cast-t31 : tie.Need-cast-t31
 cast-t31 c = let z = start (c .before .before .before .before .before .before .before .before .before .before .before) in
@@ -137,7 +141,7 @@ write-row-requires c κs =
     let v = arrived w in
     let a = w .values .ensures .values (e .if1 .left) in
     let f = granted _ (z .pre .table) .few in
-    let g : (k : ℕ) → k < v .table .count → T (all (v .width) (sumGood v k)) = all-at (v .table .count) (λ k. all (v .width) (sumGood v k)) (good e) in
+    let g : (k : ℕ) → k < v .table .count → T (all (v .width) (sumGood v k)) = all-at (v .table .count) _ (good e) in
     record {
       out-long = z .pre .lent;
       acc-long = omega arith;

@@ -16,16 +16,20 @@ returns c = rw (divided 32 (c .before .args .width) (c .before .args .samples) (
 
 returns-2 : tie.Need-returns-2
 unfolding storesGood
-returns-2 c = let z = c .before .before in
-    rw (divided 32 (z .args .width) (z .args .samples) (search needs), le-leb _ _ (c .before .if1 .left), c .if2 .taken, zero-mul (z .args .width), le-leb 0 (z .args .sums) zero-le) refl
+returns-2 c =
+    let a = c .before .before .args in
+    rw (divided 32 (a .width) (a .samples) (search needs), le-leb _ _ (c .before .if1 .left), c .if2 .taken, zero-mul (a .width))
+    (rw (le-leb 0 (a .sums) zero-le) refl)
 
 div-result : tie.Need-div-result
 div-result c = search needs
 
 returns-3 : tie.Need-returns-3
 unfolding storesGood
-returns-3 c = let z = c .before .before in
-    rw (divided 32 (z .args .width) (z .args .samples) (search needs), le-leb _ _ (c .before .if1 .left)) (sym (divided (z .args .count) (z .args .width) (z .args .sums) (search needs)))
+returns-3 c =
+    let a = c .before .before .args in
+    rw (divided 32 (a .width) (a .samples) (search needs), le-leb _ _ (c .before .if1 .left))
+    (sym (divided (a .count) (a .width) (a .sums) (search needs)))
 
 pub stores-good-spec : {M : Type 1} → statement M
 stores-good-spec = tie.close (tie.spec returns returns-2 div-result returns-3)

@@ -67,7 +67,8 @@ returns c =
     let l = z .long in
     let m = s .pre .width-most in
     first-tab (a .width - 0) (a .width) (now (a .zeros)) (omega arith) (omega arith)
-    ∙ tab-cong (a .width) (λ k h. z .none k ∙ at-below (a .width) (a .arrival) (a .delay) (now (a .row)) (now (a .samples)) (raised w) (c .before .if1 .taken) k)
+    ∙ tab-cong (a .width)
+    (λ k h. z .none k ∙ at-below (a .width) (a .arrival) (a .delay) (now (a .row)) (now (a .samples)) (raised w) (c .before .if1 .taken) k)
 
 add-row-at : tie.Need-add-row-at
 add-row-at c = search needs

@@ -41,7 +41,8 @@ trail c =
 
 -- so the places of its windows are within the line
 places : (c : tie.After-biased-byte)
-    → (112 ≤ c .biased-byte .result) × (c .biased-byte .result ≤ 142) × (c .biased-byte .result + colsOf (rect (begun c .args .t4) (begun c .args .k)) ≤ 143)
+    → (112 ≤ c .biased-byte .result) × (c .biased-byte .result ≤ 142)
+    × (c .biased-byte .result + colsOf (rect (begun c .args .t4) (begun c .args .k)) ≤ 143)
 unfolding colsOf
 places c = let s = begun c in frame (granted (s .args .t4) (s .pre .table) .bounds (s .args .k) (s .pre .rectangle .few) .col) (trail c)
 
@@ -232,8 +233,8 @@ returns c = let v = c .before .before in
     v .accumulate .ensures
     ∙ ap (λ l. l ++ drop (a .width) (a .acc .now))
     (tab-cong (a .width) (λ n h. rw (between w n h))
-    ∙ line-values (a .t4) (rect (a .t4) (a .k)) (a .line .now) (a .acc .now) (a .width) (byte w .biased-byte .result) _ _ _ (s .pre .rectangle .padded .before) (trail (byte w)) (places (byte w) .0)
-    (wide-is w) (e .0) (e .1))
+    ∙ line-values (a .t4) (rect (a .t4) (a .k)) (a .line .now) (a .acc .now) (a .width) (byte w .biased-byte .result) _ _ _
+    (s .pre .rectangle .padded .before) (trail (byte w)) (places (byte w) .0) (wide-is w) (e .0) (e .1))
 
 pub accumulate-rectangle-spec : {M : Type 1} → statement M
 accumulate-rectangle-spec =

@@ -1,74 +1,71 @@
 -- `arrival::rectangle` answers and writes what its passes do: they read the columns that the definition names, so their answer is
 -- question 19, their sums are the updated ones, and the line holds the truncated new sums where it holds.
 -- Assumes nothing.
-use Rattle.arith.proofs.Bools.{yes, no}
-use Rattle.arrival.proofs.Parts.{Lined, lined, padded-put, movable-good, new-sum, updated-sum, in-line, line-part}
-use Rattle.arith.proofs.Passes.{pass-whole}
-use Rattle.arith.proofs.Parts.{part, part-at, part-length, line-end}
-use Rattle.arrival.specs.Arrivals.{leaving, entering, stored, sumGood}
-use Rattle.arrival.specs.Rectangles.{updatedSum, ZeroPadded}
-use Rattle.layout.specs.Contents.{rect}
-use Rattle.arith.proofs.Alls.{all-cong}
-use Rattle.arith.proofs.Tabs.{length-tab}
-use Rattle.arith.specs.Tab.{tab}
-use Rattle.arith.specs.All.{all}
-use borrow.Rule.Slice.PartMut.{putMid, mid-len, same-len-mid}
-use mir.Val.{SFits}
-use mir.Syntax.{w8}
-use mir.Facts.{toZ-ofZ}
-use lib.Dec.{T}
-use lib.ListN.{getD, take, drop}
-use mathlib.Core.List.{List, _++_}
-use mathlib.Core.Path.{_≡_, sym, ap, ap₂, subst, _∙_}
+use Prim.Native.Nat.{ℕ, _+_, _-_, _*_, _≤_, _<_}
 use native.Mathlib.Nat.{le-of-eq}
-use Rattle.arrival.proofs.Carries.{edge-row-at, line-small}
-use Rattle.limits.proofs.Granted.{granted}
-use Rattle.arrival.specs.Arrivals.{Arrival, arriving}
-use denote.Ref.{now}
-use lib.ListN.{length}
 use native.Mathlib.Omega.{arith}
-use Prim.Native.Nat.{ℕ, _+_, _-_, _*_, _/_, _^_, _≤_, _<_}
+use mathlib.Core.List.{List, _++_}
+use mathlib.Core.Path.{_≡_, sym, ap, subst, _∙_}
+use lib.Dec.{T}
+use lib.ListN.{length, take, drop}
+use mir.Facts.{toZ-ofZ}
+use mir.Syntax.{w8}
+use mir.Val.{SFits}
+use denote.Ref.{now}
 use borrow.Author.Needs.{needs}
+use borrow.Rule.Slice.PartMut.{putMid, mid-len, same-len-mid}
+use Rattle.arith.specs.All.{all}
+use Rattle.arith.specs.Tab.{tab}
+use Rattle.arith.proofs.Alls.{all-cong}
+use Rattle.arith.proofs.Bools.{yes, no}
+use Rattle.arith.proofs.Grids.{line-written}
+use Rattle.arith.proofs.Parts.{part-length, line-end}
+use Rattle.arith.proofs.Passes.{pass-whole}
+use Rattle.arith.proofs.Tabs.{length-tab}
+use Rattle.layout.specs.Contents.{rect}
+use Rattle.limits.proofs.Granted.{granted}
+use Rattle.arrival.specs.Arrivals.{Arrival, arriving, sumGood}
+use Rattle.arrival.specs.Rectangles.{updatedSum, ZeroPadded}
+use Rattle.arrival.proofs.Carries.{line-small}
+use Rattle.arrival.proofs.Columns.{edgeLine, edge-line, movable-good, new-sum, updated-sum}
+use Rattle.arrival.proofs.Parts.{Lined, lined, padded-put, in-line, line-part}
 use Rattle.arrival.proofs.rectangles.rectangle.Statement.{statement}
 use Rattle.arrival.proofs.rectangles.rectangle.Tie as tie
-
--- the rectangle is one of 16, and its sums lie within the store
-few : (s : tie.Start) → s .args .k < 16
-few s = let f = granted _ (s .pre .0 .table) .few in let l = s .pre .1 .few in omega arith
-
-ends : (s : tie.Start) → s .args .k * s .args .width + s .args .width ≤ length (now (s .args .sums))
-ends s = line-end (s .args .k) (s .args .t5 .count) (s .args .width) (length (now (s .args .sums))) (s .pre .1 .few) (s .pre .0 .sums-long)
-
-small : (s : tie.Start) → s .args .k * s .args .width + s .args .width ≤ 16384
-small s = line-small (s .args .k) (s .args .width) (few s) (s .pre .0 .edges .width-most)
 
 -- what arrives
 abbrev arrived : tie.Start → Arrival
 arrived s = let a = s .args in arriving (a .t5) (a .width) (a .arrival) (now (a .row)) (now (a .samples)) (now (a .sums))
 
--- what `update_sums` reads of column n
+-- the rectangle is one of 16, and its line lies within the sum store
+few : (s : tie.Start) → s .args .k < 16
+few s = let f = granted _ (s .pre .0 .table) .few in let l = s .pre .1 .few in omega arith
+
+abbrev place : tie.Start → ℕ
+place s = s .args .k * s .args .width
+
+ends : (s : tie.Start) → place s + s .args .width ≤ length (now (s .args .sums))
+ends s = line-end (s .args .k) (s .args .t5 .count) (s .args .width) (length (now (s .args .sums))) (s .pre .1 .few) (s .pre .0 .sums-long)
+
+small : (s : tie.Start) → place s + s .args .width ≤ 16384
+small s = line-small (s .args .k) (s .args .width) (few s) (s .pre .0 .edges .width-most)
+
+-- the rows that its edges reach
 abbrev begun : tie.After-sum-most → tie.Start
 begun c = c .before .before .before .before .before .before .before .before .before .before .before .before .before
 
-abbrev sums : tie.Start → List ℕ
-sums s = part (s .args .k * s .args .width) (s .args .width) (now (s .args .sums))
+module _ (c : tie.After-sum-most) where
+  abbrev a : tie.Start
+  a = begun c
 
-module _ (c : tie.After-sum-most) (n : ℕ) (h : n < begun c .args .width) where
-  sum-at : getD (sums (begun c)) n 0 ≡ stored (arrived (begun c)) (begun c .args .k) n
-  unfolding stored
-  sum-at = part-at (begun c .args .k * begun c .args .width) (begun c .args .width) (now (begun c .args .sums)) n h
+  off-row : now (c .before .before .before .edge-row .result) ≡ edgeLine (arrived a) (rect (a .args .t5) (a .args .k) .trailrow)
+  off-row =
+      let f : SFits w8 (rect (a .args .t5) (a .args .k) .trailrow) = search needs in
+      edge-line (arrived a) (a .args .delay) _ (a .pre .0 .delay-is) (rw (toZ-ofZ f) at (c .before .before .before .edge-row .ensures))
 
-  off-at : getD (now (c .before .before .before .edge-row .result)) n 0 / 2 ^ begun c .args .t5 .q1 ≡ leaving (arrived (begun c)) (begun c .args .k) n
-  off-at =
-      let a = begun c .args in
-      let f : SFits w8 (rect (a .t5) (a .k) .trailrow) = search needs in
-      edge-row-at (a .t5) (a .width) (a .arrival) (a .delay) (now (a .row)) (now (a .samples)) (now (a .sums)) _ (begun c .pre .0 .delay-is) (rw (toZ-ofZ f) at (c .before .before .before .edge-row .ensures)) n h
-
-  on-at : getD (now (c .before .edge-row2 .result)) n 0 / 2 ^ begun c .args .t5 .q1 ≡ entering (arrived (begun c)) (begun c .args .k) n
-  on-at =
-      let a = begun c .args in
-      let f : SFits w8 (rect (a .t5) (a .k) .leadrow) = search needs in
-      edge-row-at (a .t5) (a .width) (a .arrival) (a .delay) (now (a .row)) (now (a .samples)) (now (a .sums)) _ (begun c .pre .0 .delay-is) (rw (toZ-ofZ f) at (c .before .edge-row2 .ensures)) n h
+  on-row : now (c .before .edge-row2 .result) ≡ edgeLine (arrived a) (rect (a .args .t5) (a .args .k) .leadrow)
+  on-row =
+      let f : SFits w8 (rect (a .args .t5) (a .args .k) .leadrow) = search needs in
+      edge-line (arrived a) (a .args .delay) _ (a .pre .0 .delay-is) (rw (toZ-ofZ f) at (c .before .edge-row2 .ensures))
 
 -- what `update_sums` answers and writes
 module _ (c : tie.After-update-sums) where
@@ -81,8 +78,7 @@ module _ (c : tie.After-update-sums) where
   answered : c .update-sums .result ≡ all (s .args .width) (sumGood (arrived s) (s .args .k))
   answered =
       c .update-sums .ensures .0
-      ∙ all-cong (s .args .width)
-      (λ n h. movable-good (arrived s) (s .args .k) n (sum-at asked n h) (off-at asked n h) (on-at asked n h) (asked .sum-most .ensures .0))
+      ∙ all-cong (s .args .width) (λ n h. movable-good (arrived s) (s .args .k) (off-row asked) (on-row asked) n h (asked .sum-most .ensures .0))
 
   mid : length (take (16 + s .args .width - 16) (drop 16 (now (s .args .line)))) ≡ s .args .width
   mid =
@@ -94,24 +90,22 @@ module _ (c : tie.After-update-sums) where
   drawn = putMid 16 (16 + s .args .width - 16) (now (s .args .line)) (c .update-sums .last .0)
 
   padded : ZeroPadded (s .args .width) drawn
-  padded = padded-put (now (s .args .line)) (c .update-sums .last .0) (s .args .width) (s .pre .1 .padded) (c .update-sums .kept .0 ∙ mid)
+  padded =
+      padded-put (now (s .args .line)) (c .update-sums .last .0) (s .args .width) (s .pre .1 .padded) (c .update-sums .kept .0 ∙ mid)
       (same-len-mid 16 (16 + s .args .width - 16) (now (s .args .line)) (c .update-sums .last .0) (c .update-sums .kept .0))
 
   line : T (all (s .args .width) (sumGood (arrived s) (s .args .k))) → Lined (arrived s) (s .args .k) drawn
   line good =
       lined (arrived s) (s .args .k) (now (s .args .line)) (c .update-sums .last .0) (s .pre .1 .padded)
       (c .update-sums .ensures .1 .0 (subst T (sym answered) good)
-      ∙ pass-whole (s .args .width) _ mid
-      (λ n h. ap (λ s. s / 2 ^ begun asked .args .t5 .q2) (new-sum (arrived s) (s .args .k) n (sum-at asked n h) (off-at asked n h) (on-at asked n h) (asked .sum-most .ensures .0))))
+      ∙ pass-whole (s .args .width) _ mid (new-sum (arrived s) (s .args .k) (off-row asked) (on-row asked)))
 
-  moved : putMid (s .args .k * s .args .width) (s .args .k * s .args .width + s .args .width - s .args .k * s .args .width) (now (s .args .sums)) (c .update-sums .last .1 .0)
-      ≡ putMid (s .args .k * s .args .width) (s .args .width) (now (s .args .sums)) (tab (s .args .width) (updatedSum (arrived s) (s .args .k)))
-  moved =
-      let p = s .args .k * s .args .width in
-      let n : p + s .args .width - p ≡ s .args .width = omega arith in
-      ap₂ (λ j ys. putMid p j (now (s .args .sums)) ys) n
-      (c .update-sums .ensures .1 .1 ∙ pass-whole (s .args .width) (sums s) (part-length p (s .args .width) (now (s .args .sums)) (ends s))
-      (λ n h. updated-sum (arrived s) (s .args .k) n (sum-at asked n h) (off-at asked n h) (on-at asked n h) (asked .sum-most .ensures .0)))
+  updated :
+      putMid (place s) (place s + s .args .width - place s) (now (s .args .sums)) (c .update-sums .last .1 .0)
+      ≡ putMid (place s) (s .args .width) (now (s .args .sums)) (tab (s .args .width) (updatedSum (arrived s) (s .args .k)))
+  updated =
+      line-written (place s) (s .args .width) (now (s .args .sums)) (ends s) (c .update-sums .ensures .1 .1)
+      (updated-sum (arrived s) (s .args .k) (off-row asked) (on-row asked))
 
 -- question 19 holds where the test is passed
 passed : (c : tie.Else1) → let r = c .before .before .before .before .before in T (all (s r .args .width) (sumGood (arrived (s r)) (s r .args .k)))
@@ -133,7 +127,7 @@ sum-most-requires : tie.Need-sum-most-requires
 sum-most-requires c κs = search needs
 
 mul-at : tie.Need-mul-at
-mul-at c = let p = small (c .before .before .before .before .before .before .before .before .before .before .before .before .before) in let l = c .before .before .before .before .before .before .before .before .before .before .before .before .before .pre .1 .padded .places in let w = c .before .before .before .before .before .before .before .before .before .before .before .before .before .pre .0 .edges .width-most in search (needs, p, l, w)
+mul-at c = let p = small (begun c) in search (needs, p)
 
 add-update-sums : tie.Need-add-update-sums
 add-update-sums c = search needs
@@ -145,13 +139,13 @@ part-update-sums-start : tie.Need-part-update-sums-start
 part-update-sums-start c = search needs
 
 part-update-sums-end : tie.Need-part-update-sums-end
-part-update-sums-end c = let p = small (c .before .before .before .before .before .before .before .before .before .before .before .before .before) in let l = c .before .before .before .before .before .before .before .before .before .before .before .before .before .pre .1 .padded .places in let w = c .before .before .before .before .before .before .before .before .before .before .before .before .before .pre .0 .edges .width-most in search (needs, p, l, w)
+part-update-sums-end c = let l = begun c .pre .1 .padded .places in let w = begun c .pre .0 .edges .width-most in search (needs, l, w)
 
 add-update-sums-2 : tie.Need-add-update-sums-2
-add-update-sums-2 c = let p = small (c .before .before .before .before .before .before .before .before .before .before .before .before .before .before) in let e = ends (c .before .before .before .before .before .before .before .before .before .before .before .before .before .before) in search (needs, p, e)
+add-update-sums-2 c = let p = small (begun (c .before)) in search (needs, p)
 
 mul-update-sums : tie.Need-mul-update-sums
-mul-update-sums c = let p = small (c .before .before .before .before .before .before .before .before .before .before .before .before .before .before) in let e = ends (c .before .before .before .before .before .before .before .before .before .before .before .before .before .before) in search (needs, p, e)
+mul-update-sums c = let p = small (begun (c .before)) in search (needs, p)
 
 sub-update-sums-2 : tie.Need-sub-update-sums-2
 sub-update-sums-2 c = search needs
@@ -160,7 +154,7 @@ part-update-sums-start-2 : tie.Need-part-update-sums-start-2
 part-update-sums-start-2 c = search needs
 
 part-update-sums-end-2 : tie.Need-part-update-sums-end-2
-part-update-sums-end-2 c = let p = small (c .before .before .before .before .before .before .before .before .before .before .before .before .before .before) in let e = ends (c .before .before .before .before .before .before .before .before .before .before .before .before .before .before) in search (needs, p, e)
+part-update-sums-end-2 c = ends (begun (c .before))
 
 update-sums-requires : tie.Need-update-sums-requires
 update-sums-requires c κs =
@@ -195,7 +189,7 @@ returns c =
     record {
       answer = sym (no (answered r) (c .if1 .taken));
       values = λ h. absurd (subst T (sym h) tt);
-      sums = moved r;
+      sums = updated r;
       padded = padded r;
     }
 
@@ -243,7 +237,7 @@ returns-2 c =
       values =
       λ h. u .accumulate-rectangle .ensures
       ∙ ap (λ xs. xs ++ drop (z .args .width) (now (z .args .acc))) (line-part (arrived z) (z .args .k) (now (z .args .acc)) (line r (passed e)));
-      sums = moved r;
+      sums = updated r;
       padded = padded r;
     }
 

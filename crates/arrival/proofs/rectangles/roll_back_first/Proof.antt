@@ -20,7 +20,8 @@ use Rattle.arrival.proofs.rectangles.roll_back_first.Tie as tie
 
 abbrev Inv-loop : tie.InvT-loop
 Inv-loop sums₀ zeros t n width arrival delay samples row k₀ sums k =
-    (k ≤ n) × (sums ≡ grid k width (rolledBackSum (arriving t width arrival row samples sums₀)) ++ drop (k * width) sums₀) × (length sums ≡ length sums₀)
+    (k ≤ n) × (length sums ≡ length sums₀)
+    × (sums ≡ grid k width (rolledBackSum (arriving t width arrival row samples sums₀)) ++ drop (k * width) sums₀)
 
 abbrev μ-loop : tie.MeasureT-loop
 μ-loop sums₀ zeros t n width arrival delay samples row k₀ sums k = n - k
@@ -32,7 +33,7 @@ arrived s = let a = s .args in arriving (a .t) (a .width) (a .arrival) (now (a .
 loop-holds : tie.Need-loop-holds Inv-loop μ-loop
 loop-holds c =
     let s = c .before .before .before .before in
-    (search needs, rw zero-mul (grid-none (s .args .width) (rolledBackSum (arrived s)) (now (s .args .sums))), refl)
+    (search needs, refl, rw zero-mul (grid-none (s .args .width) (rolledBackSum (arrived s)) (now (s .args .sums))))
 
 roll-back-rectangle-requires : tie.Need-roll-back-rectangle-requires Inv-loop μ-loop
 roll-back-rectangle-requires c κs =
@@ -40,7 +41,7 @@ roll-back-rectangle-requires c κs =
     let s = l .before .before .before .before .before in
     let t = c .before .loop-test .taken in
     let m = s .pre .1 in
-    (steps-still-fit (s .pre .0) (l .loop .inv .2), omega arith)
+    (steps-still-fit (s .pre .0) (l .loop .inv .1), omega arith)
 
 add-k : tie.Need-add-k Inv-loop μ-loop
 add-k c = search needs
@@ -52,14 +53,13 @@ loop-again : tie.Need-loop-again Inv-loop μ-loop
 loop-again c =
     let l = c .before .before .before .before .before in
     let s = l .before .before .before .before .before in
-    let a = s .args in
     let i = l .loop .inv in
-    let k = l .loop .k in
     let f = rolledBackSum (arrived s) in
-    let same = same-back (a .t) (a .width) (a .arrival) (now (a .row)) (now (a .samples)) (now (a .sums)) k f (i .1) in (
+    let r = c .before .before .roll-back-rectangle in
+    (
       search needs,
-      c .before .before .roll-back-rectangle .ensures ∙ next-line k (a .width) f (now (a .sums)) (i .1) same,
-      c .before .before .roll-back-rectangle .kept .0 ∙ i .2,
+      r .kept .0 ∙ i .1,
+      r .ensures ∙ next-line (l .loop .k) (s .args .width) f (now (s .args .sums)) (i .2) (same-back (arrived s) (l .loop .k) f (i .2)),
     )
 
 same-length : tie.Need-same-length Inv-loop μ-loop
@@ -71,7 +71,7 @@ returns c =
     let s = l .before .before .before .before .before in
     let a = s .args in
     let e : l .loop .k ≡ a .n = omega arith in
-    l .loop .inv .1 ∙ ap (λ k. grid k (a .width) (rolledBackSum (arrived s)) ++ drop (k * a .width) (now (a .sums))) e
+    l .loop .inv .2 ∙ ap (λ k. grid k (a .width) (rolledBackSum (arrived s)) ++ drop (k * a .width) (now (a .sums))) e
 
 pub roll-back-first-spec : {M : Type 1} → statement M
 roll-back-first-spec =

@@ -1,76 +1,60 @@
--- `arrival::roll_back_rectangle` rolls the sums of its part of the store back by the rows that its edges reach.
+-- `arrival::roll_back_rectangle` rolls the sums of its line of the store back by the rows that its edges reach.
 -- Assumes nothing.
-use Rattle.arith.proofs.Passes.{pass-whole}
-use Rattle.arith.proofs.Parts.{part, part-at, part-length, line-end}
-use Rattle.arrival.specs.Arrivals.{arriving, stored}
-use Rattle.arith.proofs.Tabs.{length-tab}
+use Prim.Native.Nat.{ℕ, _+_, _*_, _≤_, _<_}
 use native.Mathlib.Nat.{le-of-eq}
-use borrow.Rule.Slice.PartMut.{putMid}
-use mathlib.Core.List.{List}
-use Rattle.layout.specs.Contents.{rect}
-use mir.Val.{SFits}
-use mir.Syntax.{w8}
-use mir.Facts.{toZ-ofZ}
-use lib.ListN.{getD}
-use mathlib.Core.Path.{_≡_, sym, ap, ap₂, _∙_}
-use Rattle.arrival.proofs.Carries.{edge-row-at, line-small}
-use Rattle.limits.proofs.Granted.{granted}
-use Rattle.passes.specs.Passes.{stepped}
-use Rattle.arrival.specs.Rectangles.{rolledBackSum}
-use Rattle.arrival.specs.Arrivals.{Arrival, leaving, entering}
-use denote.Ref.{now}
-use lib.ListN.{length}
 use native.Mathlib.Omega.{arith}
-use Prim.Native.Nat.{ℕ, _+_, _-_, _*_, _/_, _^_, _≤_, _<_}
+use mathlib.Core.Path.{_≡_, sym, ap, _∙_}
+use lib.ListN.{length}
+use mir.Facts.{toZ-ofZ}
+use mir.Syntax.{w8}
+use mir.Val.{SFits}
+use denote.Ref.{now}
 use borrow.Author.Needs.{needs}
+use Rattle.arith.proofs.Grids.{line-written}
+use Rattle.arith.proofs.Parts.{part-length, line-end}
+use Rattle.arith.proofs.Tabs.{length-tab}
+use Rattle.layout.specs.Contents.{rect}
+use Rattle.limits.proofs.Granted.{granted}
+use Rattle.arrival.specs.Arrivals.{Arrival, arriving}
+use Rattle.arrival.proofs.Carries.{line-small}
+use Rattle.arrival.proofs.Columns.{edgeLine, edge-line, rolled-back-sum}
 use Rattle.arrival.proofs.rectangles.roll_back_rectangle.Statement.{statement}
 use Rattle.arrival.proofs.rectangles.roll_back_rectangle.Tie as tie
-
--- the rectangle is one of 16, and its sums lie within the store
-few : (s : tie.Start) → s .args .k < 16
-few s = let f = granted _ (s .pre .0 .table) .few in let l = s .pre .1 in omega arith
-
-ends : (s : tie.Start) → s .args .k * s .args .width + s .args .width ≤ length (now (s .args .sums))
-ends s = line-end (s .args .k) (s .args .t3 .count) (s .args .width) (length (now (s .args .sums))) (s .pre .1) (s .pre .0 .sums-long)
-
-small : (s : tie.Start) → s .args .k * s .args .width + s .args .width ≤ 16384
-small s = line-small (s .args .k) (s .args .width) (few s) (s .pre .0 .edges .width-most)
 
 -- what arrives
 abbrev arrived : tie.Start → Arrival
 arrived s = let a = s .args in arriving (a .t3) (a .width) (a .arrival) (now (a .row)) (now (a .samples)) (now (a .sums))
 
--- the leaving and the entering samples
+-- the rectangle is one of 16, and its line lies within the sum store
+few : (s : tie.Start) → s .args .k < 16
+few s = let f = granted _ (s .pre .0 .table) .few in let l = s .pre .1 in omega arith
+
+abbrev place : tie.Start → ℕ
+place s = s .args .k * s .args .width
+
+ends : (s : tie.Start) → place s + s .args .width ≤ length (now (s .args .sums))
+ends s = line-end (s .args .k) (s .args .t3 .count) (s .args .width) (length (now (s .args .sums))) (s .pre .1) (s .pre .0 .sums-long)
+
+small : (s : tie.Start) → place s + s .args .width ≤ 16384
+small s = line-small (s .args .k) (s .args .width) (few s) (s .pre .0 .edges .width-most)
+
+-- the rows that its edges reach
 abbrev begun : tie.After-edge-row2 → tie.Start
 begun c = c .before .before .before .before .before .before .before .before .before
 
-module _ (c : tie.After-edge-row2) (n : ℕ) (h : n < begun c .args .width) where
-  off-at : getD (now (c .before .before .edge-row .result)) n 0 / 2 ^ begun c .args .t3 .q1 ≡ leaving (arrived (begun c)) (begun c .args .k) n
-  off-at =
-      let a = begun c .args in
-      let f : SFits w8 (rect (a .t3) (a .k) .trailrow) = search needs in
-      edge-row-at (a .t3) (a .width) (a .arrival) (a .delay) (now (a .row)) (now (a .samples)) (now (a .sums)) _ (begun c .pre .0 .delay-is) (rw (toZ-ofZ f) at (c .before .before .edge-row .ensures)) n h
+module _ (c : tie.After-edge-row2) where
+  abbrev s : tie.Start
+  s = begun c
 
-  on-at : getD (now (c .edge-row2 .result)) n 0 / 2 ^ begun c .args .t3 .q1 ≡ entering (arrived (begun c)) (begun c .args .k) n
-  on-at =
-      let a = begun c .args in
-      let f : SFits w8 (rect (a .t3) (a .k) .leadrow) = search needs in
-      edge-row-at (a .t3) (a .width) (a .arrival) (a .delay) (now (a .row)) (now (a .samples)) (now (a .sums)) _ (begun c .pre .0 .delay-is) (rw (toZ-ofZ f) at (c .edge-row2 .ensures)) n h
+  off-row : now (c .before .before .edge-row .result) ≡ edgeLine (arrived s) (rect (s .args .t3) (s .args .k) .trailrow)
+  off-row =
+      let f : SFits w8 (rect (s .args .t3) (s .args .k) .trailrow) = search needs in
+      edge-line (arrived s) (s .args .delay) _ (s .pre .0 .delay-is) (rw (toZ-ofZ f) at (c .before .before .edge-row .ensures))
 
--- the sum rolled back
-abbrev sums : tie.Start → List ℕ
-sums s = part (s .args .k * s .args .width) (s .args .width) (now (s .args .sums))
-
-sum-at : (s : tie.Start) (n : ℕ) → n < s .args .width → getD (sums s) n 0 ≡ stored (arrived s) (s .args .k) n
-unfolding stored
-sum-at s n h = part-at (s .args .k * s .args .width) (s .args .width) (now (s .args .sums)) n h
-
-back-at :
-    (c : tie.After-edge-row2) (n : ℕ) → n < begun c .args .width → let q = begun c .args .t3 .q1 in
-    stepped (getD (sums (begun c)) n 0) (getD (now (c .edge-row2 .result)) n 0 / 2 ^ q) (getD (now (c .before .before .edge-row .result)) n 0 / 2 ^ q)
-    ≡ rolledBackSum (arrived (begun c)) (begun c .args .k) n
-unfolding rolledBackSum
-back-at c n h = rw (sum-at (begun c) n h, off-at c n h, on-at c n h)
+  on-row : now (c .edge-row2 .result) ≡ edgeLine (arrived s) (rect (s .args .t3) (s .args .k) .leadrow)
+  on-row =
+      let f : SFits w8 (rect (s .args .t3) (s .args .k) .leadrow) = search needs in
+      edge-line (arrived s) (s .args .delay) _ (s .pre .0 .delay-is) (rw (toZ-ofZ f) at (c .edge-row2 .ensures))
 
 mul-d : tie.Need-mul-d
 mul-d c = let l = few (c .before .before .before .before) in search (needs, l)
@@ -85,13 +69,13 @@ edge-row-requires-2 : tie.Need-edge-row-requires-2
 edge-row-requires-2 c κs = c .before .before .before .before .before .before .before .before .pre .0 .edges
 
 mul-at : tie.Need-mul-at
-mul-at c = let p = small (c .before .before .before .before .before .before .before .before .before) in let e = ends (c .before .before .before .before .before .before .before .before .before) in search (needs, p, e)
+mul-at c = let p = small (begun c) in search (needs, p)
 
 add-roll-back : tie.Need-add-roll-back
-add-roll-back c = let p = small (c .before .before .before .before .before .before .before .before .before) in let e = ends (c .before .before .before .before .before .before .before .before .before) in search (needs, p, e)
+add-roll-back c = let p = small (begun c) in search (needs, p)
 
 mul-roll-back : tie.Need-mul-roll-back
-mul-roll-back c = let p = small (c .before .before .before .before .before .before .before .before .before) in let e = ends (c .before .before .before .before .before .before .before .before .before) in search (needs, p, e)
+mul-roll-back c = let p = small (begun c) in search (needs, p)
 
 sub-roll-back : tie.Need-sub-roll-back
 sub-roll-back c = search needs
@@ -100,7 +84,7 @@ part-roll-back-start : tie.Need-part-roll-back-start
 part-roll-back-start c = search needs
 
 part-roll-back-end : tie.Need-part-roll-back-end
-part-roll-back-end c = let p = small (c .before .before .before .before .before .before .before .before .before) in let e = ends (c .before .before .before .before .before .before .before .before .before) in search (needs, p, e)
+part-roll-back-end c = ends (begun c)
 
 roll-back-requires : tie.Need-roll-back-requires
 roll-back-requires c κs =
@@ -119,13 +103,11 @@ same-length : tie.Need-same-length
 same-length c = search needs
 
 returns : tie.Need-returns
-returns c = let w = c .before .before .before .before in
+returns c =
+    let w = c .before .before .before .before in
     let s = begun w in
-    let a = s .args in
-    let p = a .k * a .width in
-    let n : p + a .width - p ≡ a .width = omega arith in
-    ap₂ (λ j ys. putMid p j (now (a .sums)) ys) n
-    (c .before .before .roll-back .ensures ∙ pass-whole (a .width) (sums s) (part-length p (a .width) (now (a .sums)) (ends s)) (back-at w))
+    line-written (place s) (s .args .width) (now (s .args .sums)) (ends s) (c .before .before .roll-back .ensures)
+    (rolled-back-sum (arrived s) (s .args .k) (off-row w) (on-row w))
 
 pub roll-back-rectangle-spec : {M : Type 1} → statement M
 roll-back-rectangle-spec =

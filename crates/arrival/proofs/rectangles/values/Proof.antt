@@ -14,7 +14,7 @@ use Rattle.arith.proofs.Grids.{next-line}
 use Rattle.arith.proofs.Passes.{grid-none}
 use Rattle.arrival.proofs.Asked.{steps-still-fit}
 use Rattle.arrival.proofs.Carries.{same-good, same-updated, same-part, all-updated}
-use mathlib.Core.List.{_++_}
+use mathlib.Core.List.{List, _++_}
 use borrow.Author.Tests.{not-false}
 use denote.Ref.{now}
 use lib.ListN.{length, drop, length-replicate}
@@ -32,10 +32,20 @@ use Rattle.arrival.proofs.rectangles.values.Tie as tie
 abbrev passes : Arrival → ℕ → Bool
 passes v j = all (v .width) (sumGood v j)
 
+-- the first k rectangles are done
+record Done (v : Arrival) (k count : ℕ) (acc₀ acc line prefixes sums : List ℕ) : Type 0 where
+  count-most : k ≤ count
+  good : (j : ℕ) → j < k → T (passes v j)
+  values : Accumulated v k acc
+  acc-long : length acc ≡ length acc₀
+  padded : ZeroPadded (v .width) line
+  prefixes-long : length prefixes ≡ 1056
+  updated : sums ≡ grid k (v .width) (updatedSum v) ++ drop (k * v .width) (v .sums)
+  sums-long : length sums ≡ length (v .sums)
+
 abbrev Inv-loop : tie.InvT-loop
-Inv-loop acc₀ zeros t width arrival delay samples sums₀ row count line₀ prefixes₀ k₀ acc sums line prefixes k = let v = arriving t width arrival row samples sums₀ in
-    (k ≤ count) × ((j : ℕ) → j < k → T (passes v j)) × Accumulated v k acc × (length acc ≡ length acc₀) × ZeroPadded width line × (length prefixes ≡ 1056)
-    × (sums ≡ grid k width (updatedSum v) ++ drop (k * width) sums₀) × (length sums ≡ length sums₀)
+Inv-loop acc₀ zeros t width arrival delay samples sums₀ row count line₀ prefixes₀ k₀ acc sums line prefixes k =
+    Done (arriving t width arrival row samples sums₀) k count acc₀ acc line prefixes sums
 
 abbrev μ-loop : tie.MeasureT-loop
 μ-loop acc₀ zeros t width arrival delay samples sums₀ row count line₀ prefixes₀ k₀ acc sums line prefixes k = count - k
@@ -53,44 +63,45 @@ module _ (r : tie.After-rectangle Inv-loop μ-loop) where
   s = l .before .before .before .before .before .before
 
   answered : r .rectangle .result ≡ passes (arrived s) (l .loop .k)
-  answered =
-      let a = s .args in
-      r .rectangle .ensures .answer ∙ same-good (a .t) (a .width) (a .arrival) (now (a .row)) (now (a .samples)) (now (a .sums)) (l .loop .k) (updatedSum (arrived s)) (l .loop .inv .6)
+  answered = r .rectangle .ensures .answer ∙ same-good (arrived s) (l .loop .k) (updatedSum (arrived s)) (l .loop .inv .updated)
 
-  moved : r .rectangle .last .1 .1 .1 .1 .1 .1 .1 .1 .1 .1 .0 ≡ grid (l .loop .k + 1) (s .args .width) (updatedSum (arrived s)) ++ drop ((l .loop .k + 1) * s .args .width) (now (s .args .sums))
+  moved :
+      r .rectangle .last .1 .1 .1 .1 .1 .1 .1 .1 .1 .1 .0
+      ≡ grid (l .loop .k + 1) (s .args .width) (updatedSum (arrived s)) ++ drop ((l .loop .k + 1) * s .args .width) (now (s .args .sums))
   moved =
-      let a = s .args in
       let f = updatedSum (arrived s) in
+      let u = l .loop .inv .updated in
       r .rectangle .ensures .sums
-      ∙ next-line (l .loop .k) (a .width) f (now (a .sums)) (l .loop .inv .6)
-      (same-updated (a .t) (a .width) (a .arrival) (now (a .row)) (now (a .samples)) (now (a .sums)) (l .loop .k) f (l .loop .inv .6))
+      ∙ next-line (l .loop .k) (s .args .width) f (now (s .args .sums)) u (same-updated (arrived s) (l .loop .k) f u)
 
   more : r .rectangle .result ≡ true → Accumulated (arrived s) (l .loop .k + 1) (r .rectangle .last .0)
   more g =
-      let a = s .args in
       let t = r .before .before .before .before .before .loop-test .taken in
-      accumulated-next (arrived s) (l .loop .k) (s .pre .0 .table) t (subst T (sym (sym answered ∙ g)) tt) (l .loop .inv .2) (s .pre .0 .edges .width-most)
+      accumulated-next (arrived s) (l .loop .k) (s .pre .0 .table) t (subst T (sym (sym answered ∙ g)) tt) (l .loop .inv .values)
+      (s .pre .0 .edges .width-most)
       (r .rectangle .ensures .values g
-      ∙ ap (λ xs. xs ++ drop (a .width) (l .loop .acc))
-      (same-part (a .t) (a .width) (a .arrival) (now (a .row)) (now (a .samples)) (now (a .sums)) (l .loop .k) (updatedSum (arrived s)) (l .loop .inv .6) (l .loop .acc)))
+      ∙ ap (λ xs. xs ++ drop (s .args .width) (l .loop .acc))
+      (same-part (arrived s) (l .loop .k) (updatedSum (arrived s)) (l .loop .inv .updated) (l .loop .acc)))
 
 loop-holds : tie.Need-loop-holds Inv-loop μ-loop
-loop-holds c = let s = c .before .before .before .before .before in (
-  zero-le,
-  (λ j h. absurd (not-suc-le-zero h)),
-  s .pre .1,
-  refl,
-  padded-none (s .args .width),
-  length-replicate {A = ℕ} 1056 0,
-  rw zero-mul (grid-none (s .args .width) (updatedSum (arrived s)) (now (s .args .sums))),
-  refl,
-)
+loop-holds c =
+    let s = c .before .before .before .before .before in
+    record {
+      count-most = zero-le;
+      good = λ j h. absurd (not-suc-le-zero h);
+      values = s .pre .1;
+      acc-long = refl;
+      padded = padded-none (s .args .width);
+      prefixes-long = length-replicate {A = ℕ} 1056 0;
+      updated = rw zero-mul (grid-none (s .args .width) (updatedSum (arrived s)) (now (s .args .sums)));
+      sums-long = refl;
+    }
 
 slice-aggregate-rectangle : tie.Need-slice-aggregate-rectangle Inv-loop μ-loop
-slice-aggregate-rectangle c = sym (c .before .before .before .loop .inv .4 .places)
+slice-aggregate-rectangle c = sym (c .before .before .before .loop .inv .padded .places)
 
 slice-aggregate-rectangle-2 : tie.Need-slice-aggregate-rectangle-2 Inv-loop μ-loop
-slice-aggregate-rectangle-2 c = sym (c .before .before .before .before .loop .inv .5)
+slice-aggregate-rectangle-2 c = sym (c .before .before .before .before .loop .inv .prefixes-long)
 
 rectangle-requires : tie.Need-rectangle-requires Inv-loop μ-loop
 rectangle-requires c κs =
@@ -99,29 +110,29 @@ rectangle-requires c κs =
     let i = l .loop .inv in
     let t = c .before .before .before .before .loop-test .taken in
     (
-      steps-still-fit (s .pre .0) (i .7),
+      steps-still-fit (s .pre .0) (i .sums-long),
       record {
         few = t;
-        acc-long = le-trans (s .pre .0 .edges .width-most) (i .2 .long);
-        value-least = accumulated-least (arrived s) (l .loop .k) (s .pre .0 .table) t (i .2);
-        value-most = accumulated-most (arrived s) (l .loop .k) (s .pre .0 .table) t (i .2);
-        padded = i .4;
-        prefixes-long = i .5;
+        acc-long = le-trans (s .pre .0 .edges .width-most) (i .values .long);
+        value-least = accumulated-least (arrived s) (l .loop .k) (s .pre .0 .table) t (i .values);
+        value-most = accumulated-most (arrived s) (l .loop .k) (s .pre .0 .table) t (i .values);
+        padded = i .padded;
+        prefixes-long = i .prefixes-long;
       },
     )
 
 same-length : tie.Need-same-length Inv-loop μ-loop
-same-length c = c .before .before .before .before .before .before .before .rectangle .kept .0 ∙ c .before .before .before .before .before .before .before .before .before .before .before .before .before .loop .inv .3
+same-length c = let r = c .before .before .before .before .before .before .before in r .rectangle .kept .0 ∙ l r .loop .inv .acc-long
 
 same-length-2 : tie.Need-same-length-2 Inv-loop μ-loop
-same-length-2 c = c .before .before .before .before .before .before .before .rectangle .kept .1 .1 .1 .1 .1 .1 .1 .1 .1 .1 .0 ∙ c .before .before .before .before .before .before .before .before .before .before .before .before .before .loop .inv .7
+same-length-2 c = let r = c .before .before .before .before .before .before .before in r .rectangle .kept .1 .1 .1 .1 .1 .1 .1 .1 .1 .1 .0 ∙ l r .loop .inv .sums-long
 
 returns : tie.Need-returns Inv-loop μ-loop
 returns c =
     let r = c .before .before .before .before .before .before .before in
     let t = r .before .before .before .before .before .loop-test .taken in
     record {
-      first = sym (first-at (s r .args .t .count) (passes (arrived (s r))) (l r .loop .k) t (l r .loop .inv .1) (no (answered r) (c .if1 .taken)));
+      first = sym (first-at (s r .args .t .count) (passes (arrived (s r))) (l r .loop .k) t (l r .loop .inv .good) (no (answered r) (c .if1 .taken)));
       values = λ h. absurd (omega arith);
       accepted = λ h. absurd (omega arith);
       refused = λ h. moved r;
@@ -137,19 +148,21 @@ loop-less : tie.Need-loop-less Inv-loop μ-loop
 loop-less c = search needs
 
 loop-again : tie.Need-loop-again Inv-loop μ-loop
-loop-again c = let r = c .before .before .before .before .before .before .before in
+loop-again c =
+    let r = c .before .before .before .before .before .before .before in
     let t = r .before .before .before .before .before .loop-test .taken in
     let i = l r .loop .inv in
-    let g = not-false _ (c .if1 .left) in (
-      omega arith,
-      up-to (l r .loop .k) (i .1) (subst T (sym (sym (answered r) ∙ g)) tt),
-      more r g,
-      r .rectangle .kept .0 ∙ i .3,
-      r .rectangle .ensures .padded,
-      r .rectangle .kept .1 .1 .0 ∙ i .5,
-      moved r,
-      r .rectangle .kept .1 .1 .1 .1 .1 .1 .1 .1 .1 .1 .0 ∙ i .7,
-    )
+    let g = not-false _ (c .if1 .left) in
+    record {
+      count-most = omega arith;
+      good = up-to (l r .loop .k) (i .good) (subst T (sym (sym (answered r) ∙ g)) tt);
+      values = more r g;
+      acc-long = r .rectangle .kept .0 ∙ i .acc-long;
+      padded = r .rectangle .ensures .padded;
+      prefixes-long = r .rectangle .kept .1 .1 .0 ∙ i .prefixes-long;
+      updated = moved r;
+      sums-long = r .rectangle .kept .1 .1 .1 .1 .1 .1 .1 .1 .1 .1 .0 ∙ i .sums-long;
+    }
 
 same-length-3 : tie.Need-same-length-3 Inv-loop μ-loop
 same-length-3 c = search needs
@@ -164,12 +177,12 @@ returns-2 c =
     let a = s .args in
     let h = l .loop .inv in
     let e : l .loop .k ≡ a .t .count = omega arith in
-    let good : (j : ℕ) → j < a .t .count → T (passes (arrived s) j) = λ j p. h .1 j (omega arith) in
+    let good : (j : ℕ) → j < a .t .count → T (passes (arrived s) j) = λ j p. h .good j (omega arith) in
     record {
       first = e ∙ sym (first-none (a .t .count) (passes (arrived s)) good);
-      values = λ h′. subst (λ n. Accumulated (arrived s) n (l .loop .acc)) e (h .2);
+      values = λ h′. subst (λ n. Accumulated (arrived s) n (l .loop .acc)) e (h .values);
       accepted =
-      λ h′. h .6 ∙ ap (λ k. grid k (a .width) (updatedSum (arrived s)) ++ drop (k * a .width) (now (a .sums))) e
+      λ h′. h .updated ∙ ap (λ k. grid k (a .width) (updatedSum (arrived s)) ++ drop (k * a .width) (now (a .sums))) e
       ∙ all-updated (arrived s) (s .pre .0 .table) good;
       refused = λ p. absurd (omega arith);
     }

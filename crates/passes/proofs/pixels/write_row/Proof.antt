@@ -45,7 +45,8 @@ loop-less c = search needs
 loop-again : tie.Need-loop-again Inv-loop μ-loop
 loop-again c =
     let l = c .before .before .before in
-    one-more (l .loop .inv) (c .before .before .loop-test .taken) (toZ-ofZ {w = w32} (record { sfits = c .round-pixel .ok }) ∙ c .round-pixel .ensures)
+    one-more (l .loop .inv) (c .before .before .loop-test .taken)
+    (toZ-ofZ {w = w32} (record { sfits = c .round-pixel .ok }) ∙ c .round-pixel .ensures)
 
 same-length : tie.Need-same-length Inv-loop μ-loop
 same-length c = search needs

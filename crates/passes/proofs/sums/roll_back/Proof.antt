@@ -35,7 +35,9 @@ shr-wrapping-sub-u32 : tie.Need-shr-wrapping-sub-u32 Inv-loop μ-loop
 shr-wrapping-sub-u32 c = search needs
 
 cast-wrapping-sub-u32 : tie.Need-cast-wrapping-sub-u32 Inv-loop μ-loop
-cast-wrapping-sub-u32 c = cut-fits _ (c .before .before .before .before .before .before .before .args .q1) (c .shared-slice-known3 .given (c .before .before .before .loop .c))
+cast-wrapping-sub-u32 c =
+    let l = c .before .before .before in
+    cut-fits _ (l .before .before .before .before .args .q1) (c .shared-slice-known3 .given (l .loop .c))
 
 wrapping-sub-u32-requires : tie.Need-wrapping-sub-u32-requires Inv-loop μ-loop
 wrapping-sub-u32-requires c κs = search needs
@@ -50,7 +52,9 @@ shr-wrapping-add-u32 : tie.Need-shr-wrapping-add-u32 Inv-loop μ-loop
 shr-wrapping-add-u32 c = search needs
 
 cast-wrapping-add-u32 : tie.Need-cast-wrapping-add-u32 Inv-loop μ-loop
-cast-wrapping-add-u32 c = cut-fits _ (c .before .before .before .before .before .before .before .before .before .args .q1) (c .shared-slice-known4 .given (c .before .before .before .before .before .loop .c))
+cast-wrapping-add-u32 c =
+    let l = c .before .before .before .before .before in
+    cut-fits _ (l .before .before .before .before .args .q1) (c .shared-slice-known4 .given (l .loop .c))
 
 wrapping-add-u32-requires : tie.Need-wrapping-add-u32-requires Inv-loop μ-loop
 wrapping-add-u32-requires c κs = search needs
