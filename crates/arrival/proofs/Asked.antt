@@ -53,13 +53,13 @@ steps-fit {v} f d z =
       table = f .table;
       delay-is = d;
       edges =
-      record {
-        width-most = f .width-most;
-        number-most = f .number-most;
-        delay-most = let m = delay-most (v .table) (f .table) in omega arith;
-        ring = record { row-long = f .long; samples-long = f .samples-long };
-        zero-row = z;
-      };
+          record {
+            width-most = f .width-most;
+            number-most = f .number-most;
+            delay-most = let m = delay-most (v .table) (f .table) in omega arith;
+            ring = record { row-long = f .long; samples-long = f .samples-long };
+            zero-row = z;
+          };
       sums-long = f .sums-long;
     }
 

@@ -59,7 +59,8 @@ unfolding lineSum
 line-sum t d line b c z e l =
     ap (λ s. s / 2 ^ t .q3 * 2 ^ (t .q1 + t .q2 + t .q3))
     (sum-cong (colsOf d)
-    (λ j h. ap (λ i. getD line i 0) (omega arith) ∙ sym (line-at line z (c + 1 + b + j) (omega arith)) ∙ ap (lineFrom line) (sym (covered-frame c j e))))
+    (λ j h.
+    ap (λ i. getD line i 0) (omega arith) ∙ sym (line-at line z (c + 1 + b + j) (omega arith)) ∙ ap (lineFrom line) (sym (covered-frame c j e))))
 
 -- the most that a column sum can be, scaled back
 most-le : (t : Table) (d : Rect) → t .q1 < t .b → t .b ≤ 12 → rowsOf d ≤ 31 → sumMost t d * 2 ^ t .q1 ≤ 126976

@@ -40,7 +40,7 @@ arriving t width number row samples sums =
 unfoldable pub edgeRow : Arrival → (edge : ℤ) → ℤ
 edgeRow v edge = (pos (v .number) -ℤ pos (delayOf (v .table))) +ℤ edge
 
--- the cut sample that an edge reaches in column c; the leaving and the entering one of a rectangle
+-- the truncated sample that an edge reaches in column c; the leaving and the entering one of a rectangle
 unfoldable pub cutAt : Arrival → (edge : ℤ) → (c : ℕ) → ℕ
 cutAt v edge c = rowAt (v .width) (v .number) (v .row) (v .samples) (edgeRow v edge) c / 2 ^ v .table .q1
 

@@ -25,5 +25,11 @@ pub fn edge_row<'a>(
     if arrival + reach < delay + 128 {
         return &zeros[0..width];
     }
-    row_at(samples, row, width, arrival, arrival + reach - (delay + 128))
+    row_at(
+        samples,
+        row,
+        width,
+        arrival,
+        arrival + reach - (delay + 128),
+    )
 }

@@ -75,7 +75,14 @@ fn rectangle<'a>(
 }
 
 // Adds the part of rectangle k, whose truncated column sums stand in a line from place 16 on, to the values.
-fn accumulate_rectangle(acc: &mut [u64], prefixes: &mut [u32], line: &[u32], t: Table, k: usize, width: usize)
+fn accumulate_rectangle(
+    acc: &mut [u64],
+    prefixes: &mut [u32],
+    line: &[u32],
+    t: Table,
+    k: usize,
+    width: usize,
+)
     requires { ⌜ LineFits t k width (now acc) (now line) (length (now prefixes)) ⌝ }
     ensures { λ _. ⌜ now (acc .exit) ≡ tab width (withLine t (rect t k) (now (line .entry)) (now (acc .entry))) ++ drop width (now (acc .entry)) ⌝ }
 {

@@ -74,7 +74,7 @@ none-more n m =
     is : (n : ℕ) → n ≡ 0 → T (eqb n 0)
     is n e = subst T (sym (eq-eqb n 0 e)) tt
 
--- a cut sample fits 32 bits
+-- a truncated sample fits 32 bits
 pub cut-fits : (x q : ℕ) → Fits w16 x → Fits w32 (x / 2 ^ q)
 cut-fits x q f = record { fits = lt-of-le-of-lt (div-le-self x (2 ^ q)) (fits-widen {w = w16} {w′ = w32} tt f .fits) }
 

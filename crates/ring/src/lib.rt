@@ -30,7 +30,13 @@ pub fn keep(samples: &mut [u16], row: &[u16], width: usize, arrival: usize)
 }
 
 // Row e at an arrival: the arriving row itself, or the one that its place holds.
-pub fn row_at<'a>(samples: &'a [u16], row: &'a [u16], width: usize, arrival: usize, e: usize) -> &'a [u16]
+pub fn row_at<'a>(
+    samples: &'a [u16],
+    row: &'a [u16],
+    width: usize,
+    arrival: usize,
+    e: usize,
+) -> &'a [u16]
     requires { ⌜ RingFits width (length (now row)) (length (now samples)) ⌝ }
     ensures { λ r. ⌜ now r ≡ tab width (rowAt width arrival (now (row .entry)) (now (samples .entry)) (pos e)) ⌝ }
 {

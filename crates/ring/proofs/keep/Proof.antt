@@ -40,8 +40,7 @@ part-copy-end c = ends (c .before .before)
 copy-requires : tie.Need-copy-requires
 copy-requires c κs =
     let s = c .before .before .before in
-    let a = s .args in
-    (
+    let a = s .args in (
       le-of-eq (sym (part-length (a .arrival % 32 * a .width) (a .width) (now (a .samples)) (ends s))),
       le-of-eq (sym (s .pre .row-long)),
     )

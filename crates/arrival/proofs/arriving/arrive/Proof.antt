@@ -56,7 +56,9 @@ same-leaves : {v : Verdict} {samples samples′ sums sums′ : List ℕ} {out ou
 same-leaves e f g = rw (e, f, g) refl
 
 -- the sums of a refused arrival, rolled back
-back : (c : tie.After-roll-back-first) → c .roll-back-first .last .0 ≡ start (c .before .before .before .before .before .before .before .before .before) .args .sums .now
+back :
+    (c : tie.After-roll-back-first)
+    → c .roll-back-first .last .0 ≡ start (c .before .before .before .before .before .before .before .before .before) .args .sums .now
 back c =
     let f = c .before .before .before .before in
     let w = f .before .before .before .before .before in

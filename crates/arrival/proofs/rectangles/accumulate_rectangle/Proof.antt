@@ -142,7 +142,7 @@ prefix-sums-requires c κs =
       line-long = omega arith;
       sums-long = omega arith;
       small =
-      λ i. le-trans (s .pre .small i) (place-le (s .args .t4) (rect (s .args .t4) (s .args .k)) (g .q1-less) (g .bits-most) (d .rows-most));
+          λ i. le-trans (s .pre .small i) (place-le (s .args .t4) (rect (s .args .t4) (s .args .k)) (g .q1-less) (g .bits-most) (d .rows-most));
     }
 
 add-accumulate : tie.Need-add-accumulate
@@ -209,9 +209,9 @@ accumulate-requires c κs =
       one-sign = one-part (rect t (a .k) .weight) (e .0) (e .1);
       rising = prefix-rises (a .line .now) (prefixes w) (a .width + 32) (base w) (wide w) (a .width) (prefix-at w) (ends w);
       small =
-      λ n i. rw (between w n i)
-      (subst (λ m. window (a .line .now) (base w) m n / 2 ^ t .q3 * 2 ^ (t .q1 + t .q2 + t .q3) < scaledEnd) (sym (wide-is w))
-      (window-le t (rect t (a .k)) (a .line .now) (base w) n x y (d .rows-most) (d .cols-most) (s .pre .small)));
+          λ n i. rw (between w n i)
+          (subst (λ m. window (a .line .now) (base w) m n / 2 ^ t .q3 * 2 ^ (t .q1 + t .q2 + t .q3) < scaledEnd) (sym (wide-is w))
+          (window-le t (rect t (a .k)) (a .line .now) (base w) n x y (d .rows-most) (d .cols-most) (s .pre .small)));
       value-least = s .pre .rectangle .value-least;
       value-most = s .pre .rectangle .value-most;
     }

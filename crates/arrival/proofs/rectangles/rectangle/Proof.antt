@@ -203,14 +203,14 @@ accumulate-rectangle-requires c κs =
       table = z .pre .0 .table;
       width-most = z .pre .0 .edges .width-most;
       rectangle =
-      record {
-        few = z .pre .1 .few;
-        acc-long = z .pre .1 .acc-long;
-        value-least = z .pre .1 .value-least;
-        value-most = z .pre .1 .value-most;
-        padded = padded r;
-        prefixes-long = z .pre .1 .prefixes-long;
-      };
+          record {
+            few = z .pre .1 .few;
+            acc-long = z .pre .1 .acc-long;
+            value-least = z .pre .1 .value-least;
+            value-most = z .pre .1 .value-most;
+            padded = padded r;
+            prefixes-long = z .pre .1 .prefixes-long;
+          };
       small = in-line (arrived z) (z .args .k) good (line r good);
     }
 
@@ -235,8 +235,8 @@ returns-2 c =
     record {
       answer = sym (yes (answered r) (e .if1 .left));
       values =
-      λ h. u .accumulate-rectangle .ensures
-      ∙ ap (λ xs. xs ++ drop (z .args .width) (now (z .args .acc))) (line-part (arrived z) (z .args .k) (now (z .args .acc)) (line r (passed e)));
+          λ h. u .accumulate-rectangle .ensures
+          ∙ ap (λ xs. xs ++ drop (z .args .width) (now (z .args .acc))) (line-part (arrived z) (z .args .k) (now (z .args .acc)) (line r (passed e)));
       sums = updated r;
       padded = padded r;
     }

@@ -55,8 +55,7 @@ loop-again c =
     let s = l .before .before .before .before .before in
     let i = l .loop .inv in
     let f = rolledBackSum (arrived s) in
-    let r = c .before .before .roll-back-rectangle in
-    (
+    let r = c .before .before .roll-back-rectangle in (
       search needs,
       r .kept .0 ∙ i .1,
       r .ensures ∙ next-line (l .loop .k) (s .args .width) f (now (s .args .sums)) (i .2) (same-back (arrived s) (l .loop .k) f (i .2)),

@@ -65,10 +65,10 @@ module _ (r : tie.After-rectangle Inv-loop μ-loop) where
   answered : r .rectangle .result ≡ passes (arrived s) (l .loop .k)
   answered = r .rectangle .ensures .answer ∙ same-good (arrived s) (l .loop .k) (updatedSum (arrived s)) (l .loop .inv .updated)
 
-  moved :
+  updated :
       r .rectangle .last .1 .1 .1 .1 .1 .1 .1 .1 .1 .1 .0
       ≡ grid (l .loop .k + 1) (s .args .width) (updatedSum (arrived s)) ++ drop ((l .loop .k + 1) * s .args .width) (now (s .args .sums))
-  moved =
+  updated =
       let f = updatedSum (arrived s) in
       let u = l .loop .inv .updated in
       r .rectangle .ensures .sums
@@ -108,8 +108,7 @@ rectangle-requires c κs =
     let l = c .before .before .before .before .before in
     let s = l .before .before .before .before .before .before in
     let i = l .loop .inv in
-    let t = c .before .before .before .before .loop-test .taken in
-    (
+    let t = c .before .before .before .before .loop-test .taken in (
       steps-still-fit (s .pre .0) (i .sums-long),
       record {
         few = t;
@@ -122,10 +121,14 @@ rectangle-requires c κs =
     )
 
 same-length : tie.Need-same-length Inv-loop μ-loop
-same-length c = let r = c .before .before .before .before .before .before .before in r .rectangle .kept .0 ∙ l r .loop .inv .acc-long
+same-length c =
+    let r = c .before .before .before .before .before .before .before in
+    r .rectangle .kept .0 ∙ l r .loop .inv .acc-long
 
 same-length-2 : tie.Need-same-length-2 Inv-loop μ-loop
-same-length-2 c = let r = c .before .before .before .before .before .before .before in r .rectangle .kept .1 .1 .1 .1 .1 .1 .1 .1 .1 .1 .0 ∙ l r .loop .inv .sums-long
+same-length-2 c =
+    let r = c .before .before .before .before .before .before .before in
+    r .rectangle .kept .1 .1 .1 .1 .1 .1 .1 .1 .1 .1 .0 ∙ l r .loop .inv .sums-long
 
 returns : tie.Need-returns Inv-loop μ-loop
 returns c =
@@ -135,7 +138,7 @@ returns c =
       first = sym (first-at (s r .args .t .count) (passes (arrived (s r))) (l r .loop .k) t (l r .loop .inv .good) (no (answered r) (c .if1 .taken)));
       values = λ h. absurd (omega arith);
       accepted = λ h. absurd (omega arith);
-      refused = λ h. moved r;
+      refused = λ h. updated r;
     }
 
 add-k : tie.Need-add-k Inv-loop μ-loop
@@ -160,7 +163,7 @@ loop-again c =
       acc-long = r .rectangle .kept .0 ∙ i .acc-long;
       padded = r .rectangle .ensures .padded;
       prefixes-long = r .rectangle .kept .1 .1 .0 ∙ i .prefixes-long;
-      updated = moved r;
+      updated = updated r;
       sums-long = r .rectangle .kept .1 .1 .1 .1 .1 .1 .1 .1 .1 .1 .0 ∙ i .sums-long;
     }
 
@@ -182,8 +185,8 @@ returns-2 c =
       first = e ∙ sym (first-none (a .t .count) (passes (arrived s)) good);
       values = λ h′. subst (λ n. Accumulated (arrived s) n (l .loop .acc)) e (h .values);
       accepted =
-      λ h′. h .updated ∙ ap (λ k. grid k (a .width) (updatedSum (arrived s)) ++ drop (k * a .width) (now (a .sums))) e
-      ∙ all-updated (arrived s) (s .pre .0 .table) good;
+          λ h′. h .updated ∙ ap (λ k. grid k (a .width) (updatedSum (arrived s)) ++ drop (k * a .width) (now (a .sums))) e
+          ∙ all-updated (arrived s) (s .pre .0 .table) good;
       refused = λ p. absurd (omega arith);
     }
 

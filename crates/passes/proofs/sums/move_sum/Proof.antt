@@ -43,8 +43,7 @@ returns c = let a = c .before .before .before .before .args in
     let p = c .before .past .ensures in
     let q = c .past2 .ensures in
     let x = past-one (leb less (a .bound)) in
-    let y = past-one (leb sum (a .bound)) in
-    (
+    let y = past-one (leb sum (a .bound)) in (
       rw (p, q) (none-past (leb less (a .bound)) (leb sum (a .bound)) ∙ good),
       (omega arith, step-sum (a .stored) (a .off) (a .on) less sum sub add),
     )

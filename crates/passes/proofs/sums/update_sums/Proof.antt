@@ -30,8 +30,7 @@ loop-holds : tie.Need-loop-holds Inv-loop μ-loop
 unfolding all
 loop-holds c =
     let s = c .before .before .before .before in
-    let a = s .args in
-    (
+    let a = s .args in (
       none-done _ _ (a .sums .now) (s .pre .sums-long),
       (λ _. none-done _ _ (a .line .now) (s .pre .line-long)),
       refl,
@@ -106,8 +105,7 @@ loop-again c =
     let good = movableAt (a .sums .now) (a .off .now) (a .on .now) (a .bound) (a .q1) in
     let at = next-place (h .0) 0 in
     let sum : m .result .sum ≡ steppedAt (a .sums .now) (a .off .now) (a .on .now) (a .q1) k = rw at at (m .ensures .1 .1) in
-    let e : all (k + 1) good ≡ (all k good && good k) = rw (add-one k) (all-suc k good) in
-    (
+    let e : all (k + 1) good ≡ (all k good && good k) = rw (add-one k) (all-suc k good) in (
       one-more (h .0) t sum,
       (λ p.
           let b = and-yes (all k good) (good k) (subst T e p) in
@@ -128,8 +126,7 @@ returns c =
     let a = c .before .before .before .before .before .before .args in
     let h = c .before .loop .inv in
     let o = c .loop-test .left in
-    let e : c .before .loop .c ≡ a .n = omega arith in
-    (
+    let e : c .before .loop .c ≡ a .n = omega arith in (
       h .3 ∙ ap (λ n. all n (movableAt (a .sums .now) (a .off .now) (a .on .now) (a .bound) (a .q1))) e,
       ((λ g. all-done (h .1 (subst T (h .3) g)) o), all-done (h .0) o),
     )

@@ -62,8 +62,7 @@ with-part-requires c κs =
     let p = l .before .before .before .before .pre in
     let t = c .before .before .before .loop-test .taken in
     let x = small l t in
-    rw (scaled-exact (at l) x, next-place (l .loop .inv) 0)
-    (
+    rw (scaled-exact (at l) x, next-place (l .loop .inv) 0) (
       p .value-most (l .loop .c) t,
       x,
       p .above-most,

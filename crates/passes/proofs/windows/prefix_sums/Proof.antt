@@ -50,8 +50,7 @@ loop-again : tie.Need-loop-again Inv-loop μ-loop
 loop-again c =
     let l = c .before .before in
     let k = l .loop .i in
-    let small = l .before .pre .small k in
-    (
+    let small = l .before .pre .small k in (
       one-more (l .loop .inv .0) (c .before .loop-test .taken) (l .loop .inv .1),
       rw (add-one k, sum-suc k) (ap (λ x. x + getD (l .before .args .line .now) k 0) (l .loop .inv .1)),
       omega arith,
