@@ -13,7 +13,7 @@ use Rattle.arith.specs.Tab.{tab, grid}
 use Rattle.arith.proofs.Tabs.{tab-suc, length-tab, getD-tab, tab-cong}
 
 module _ {A : Type 0} where
-  pub pass-none : (f : ℕ → A) (xs : List A) → xs ≡ tab 0 f ++ drop 0 xs
+  pass-none : (f : ℕ → A) (xs : List A) → xs ≡ tab 0 f ++ drop 0 xs
   unfolding tab
   pass-none f xs = refl
 
@@ -25,7 +25,7 @@ module _ {A : Type 0} where
       omega arith
 
   -- a place that the pass has not reached
-  pub pass-next : (n : ℕ) (f : ℕ → A) (xs : List A) (k : ℕ) (d : A) → n ≤ k → getD (tab n f ++ drop n xs) k d ≡ getD xs k d
+  pass-next : (n : ℕ) (f : ℕ → A) (xs : List A) (k : ℕ) (d : A) → n ≤ k → getD (tab n f ++ drop n xs) k d ≡ getD xs k d
   pass-next n f xs k d h =
       let l = length-tab n f in
       let e : k ≡ length (tab n f) + (k - n) = omega arith in
@@ -39,7 +39,7 @@ module _ {A : Type 0} where
       let l = length-tab n f in List·getD-append (tab n f) (drop n xs) d k (omega arith) ∙ getD-tab n f k d h
 
   -- one place more
-  pub pass-set :
+  pass-set :
       (n : ℕ) (f : ℕ → A) (xs : List A) (d : A) → n < length xs → set (tab n f ++ drop n xs) n (f n) ≡ tab (suc n) f ++ drop (suc n) xs
   pass-set n f xs d h =
       rw (drop-cons xs n d h, tab-suc n f)
