@@ -4,5 +4,5 @@ pub mod Delays
 pub mod Carries
 pub mod Columns
 pub mod Parts
-pub mod Taken
+pub mod Values
 pub mod Theorems

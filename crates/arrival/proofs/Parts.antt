@@ -32,7 +32,7 @@ use Rattle.rule.specs.Sums.{covered}
 use Rattle.arrival.specs.Arrivals.{Arrival, newSum, sumMost, sumGood, lineAt, windowAt, scaledAt}
 use Rattle.passes.specs.Passes.{bias, valueMost, partMost, scaledEnd}
 use Rattle.arrival.specs.Rectangles.{lineFrom, lineSum, withLine, withPart, Accumulated, ZeroPadded, Zeros}
-use Rattle.arrival.proofs.Taken.{line-most, scaled-most}
+use Rattle.arrival.proofs.Values.{line-most, scaled-most}
 
 -- ---- the line
 
@@ -85,15 +85,15 @@ pub zeros-none : Zeros (replicate 1024 0)
 zeros-none = record { long = length-replicate {A = ℕ} 1024 0; none = zero-at 1024 }
 
 -- the truncated column sums of rectangle k from place 16 on, and zeros elsewhere
-pub record Lined (v : Arrival) (k : ℕ) (line : List ℕ) : Type 0 where
+pub record LineHolds (v : Arrival) (k : ℕ) (line : List ℕ) : Type 0 where
   pub before : (i : ℕ) → i < 16 → getD line i 0 ≡ 0
   pub column : (j : ℤ) → lineFrom line j ≡ lineAt v k j / 2 ^ v .table .q2
 
-pub lined :
+pub line-holds :
     (v : Arrival) (k : ℕ) (line ys : List ℕ) → ZeroPadded (v .width) line → ys ≡ tab (v .width) (λ c. newSum v k c / 2 ^ v .table .q2)
-    → Lined v k (putMid 16 (16 + v .width - 16) line ys)
+    → LineHolds v k (putMid 16 (16 + v .width - 16) line ys)
 unfolding lineFrom lineAt
-lined v k line ys padded e = record { before = before-column line ys (v .width) padded few; column = column }
+line-holds v k line ys padded e = record { before = before-column line ys (v .width) padded few; column = column }
   where
     few : length ys ≡ v .width
     few = ap length e ∙ length-tab (v .width) _
@@ -112,7 +112,7 @@ lined v k line ys padded e = record { before = before-column line ys (v .width) 
 
 -- where question 19 holds, each place is within the bound
 module _ (v : Arrival) (k : ℕ) (good : T (all (v .width) (sumGood v k))) where
-  pub in-line : {line : List ℕ} → Lined v k line → (i : ℕ) → getD line i 0 ≤ sumMost (v .table) (rect (v .table) k) / 2 ^ v .table .q2
+  pub in-line : {line : List ℕ} → LineHolds v k line → (i : ℕ) → getD line i 0 ≤ sumMost (v .table) (rect (v .table) k) / 2 ^ v .table .q2
   unfolding lineFrom
   in-line {line} l i = go (ltb i 16) (ltb→lt i 16) (nltb→le i 16)
     where
@@ -126,14 +126,14 @@ module _ (v : Arrival) (k : ℕ) (good : T (all (v .width) (sumGood v k))) where
           le-trans (le-of-eq p) m
 
 -- the windows of the line are those of the rule
-pub line-scaled : (v : Arrival) (k : ℕ) {line : List ℕ} → Lined v k line → (c : ℕ) → lineSum (v .table) (rect (v .table) k) line c ≡ scaledAt v k c
+pub line-scaled : (v : Arrival) (k : ℕ) {line : List ℕ} → LineHolds v k line → (c : ℕ) → lineSum (v .table) (rect (v .table) k) line c ≡ scaledAt v k c
 unfolding lineSum windowAt scaledAt
 line-scaled v k {line} l c =
     ap (λ s. s / 2 ^ v .table .q3 * 2 ^ (v .table .q1 + v .table .q2 + v .table .q3))
     (sum-cong (colsOf (rect (v .table) k)) (λ j h. l .column (covered (pos c) (rect (v .table) k .trailcol) j)))
 
 -- a pass that adds them adds the rectangle's part
-pub line-part : (v : Arrival) (k : ℕ) {line : List ℕ} (acc : List ℕ) → Lined v k line
+pub line-part : (v : Arrival) (k : ℕ) {line : List ℕ} (acc : List ℕ) → LineHolds v k line
     → tab (v .width) (withLine (v .table) (rect (v .table) k) line acc) ≡ tab (v .width) (withPart v k acc)
 line-part v k acc l = tab-cong (v .width) (λ c h. rw (line-scaled v k l c) refl)
 

@@ -7,7 +7,7 @@ use lib.IntN.{ℤ}
 use Rattle.arith.proofs.Parts.{line-end}
 use Rattle.arrival.proofs.Carries.{all-back}
 use Rattle.arrival.proofs.Parts.{zeros-none}
-use Rattle.arrival.proofs.Taken.{accumulated-none, rounds, rounds-word}
+use Rattle.arrival.proofs.Values.{accumulated-none, rounds, rounds-word}
 use Rattle.arrival.proofs.Asked.{steps-fit, steps-still-fit}
 use Rattle.arrival.specs.Arrivals.{Arrival, arriving, sumGood, arrivalAsks, samplesAfter, outputAfter, leaves, arriveOf}
 use Rattle.limits.proofs.Granted.{granted}

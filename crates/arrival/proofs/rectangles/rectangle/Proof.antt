@@ -28,7 +28,7 @@ use Rattle.arrival.specs.Arrivals.{Arrival, arriving, sumGood}
 use Rattle.arrival.specs.Rectangles.{updatedSum, ZeroPadded}
 use Rattle.arrival.proofs.Carries.{line-small}
 use Rattle.arrival.proofs.Columns.{edgeLine, edge-line, movable-good, new-sum, updated-sum}
-use Rattle.arrival.proofs.Parts.{Lined, lined, padded-put, in-line, line-part}
+use Rattle.arrival.proofs.Parts.{LineHolds, line-holds, padded-put, in-line, line-part}
 use Rattle.arrival.proofs.rectangles.rectangle.Statement.{statement}
 use Rattle.arrival.proofs.rectangles.rectangle.Tie as tie
 
@@ -86,17 +86,17 @@ module _ (c : tie.After-update-sums) where
       let l = s .pre .1 .padded .places in
       mid-len 16 (16 + s .args .width) (now (s .args .line)) (omega arith) ∙ omega arith
 
-  abbrev drawn : List ℕ
-  drawn = putMid 16 (16 + s .args .width - 16) (now (s .args .line)) (c .update-sums .last .0)
+  abbrev written : List ℕ
+  written = putMid 16 (16 + s .args .width - 16) (now (s .args .line)) (c .update-sums .last .0)
 
-  padded : ZeroPadded (s .args .width) drawn
+  padded : ZeroPadded (s .args .width) written
   padded =
       padded-put (now (s .args .line)) (c .update-sums .last .0) (s .args .width) (s .pre .1 .padded) (c .update-sums .kept .0 ∙ mid)
       (same-len-mid 16 (16 + s .args .width - 16) (now (s .args .line)) (c .update-sums .last .0) (c .update-sums .kept .0))
 
-  line : T (all (s .args .width) (sumGood (arrived s) (s .args .k))) → Lined (arrived s) (s .args .k) drawn
+  line : T (all (s .args .width) (sumGood (arrived s) (s .args .k))) → LineHolds (arrived s) (s .args .k) written
   line good =
-      lined (arrived s) (s .args .k) (now (s .args .line)) (c .update-sums .last .0) (s .pre .1 .padded)
+      line-holds (arrived s) (s .args .k) (now (s .args .line)) (c .update-sums .last .0) (s .pre .1 .padded)
       (c .update-sums .ensures .1 .0 (subst T (sym answered) good)
       ∙ pass-whole (s .args .width) _ mid (new-sum (arrived s) (s .args .k) (off-row asked) (on-row asked)))
 

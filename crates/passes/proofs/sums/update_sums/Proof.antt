@@ -1,11 +1,12 @@
 -- `passes::update_sums` is two passes in one loop, over the sums and, where every sum so far may move, over the line; the failures so
 -- far are 0 exactly when all of them may.
 -- Assumes nothing.
-use Prim.Native.Nat.{_+_, _-_, _*_, _/_, _^_, _≤_}
+use Prim.Native.Nat.{ℕ, _+_, _-_, _*_, _/_, _^_, _≤_}
 use native.Mathlib.Numerals.{add-one}
 use native.Mathlib.Omega.{arith}
 use mathlib.Core.Path.{_≡_, refl, sym, ap, ap₂, subst, _∙_}
 use mathlib.Core.Bool.{_&&_}
+use mathlib.Core.List.{List}
 use lib.Dec.{T, eqb}
 use lib.ListN.{length, length-set}
 use mir.Facts.{and-yes}
@@ -18,10 +19,16 @@ use Rattle.passes.proofs.Steps.{none-more, step-exact}
 use Rattle.passes.proofs.sums.update_sums.Statement.{statement}
 use Rattle.passes.proofs.sums.update_sums.Tie as tie
 
+-- the first c columns are done
+record Done (n bound q1 q2 : ℕ) (line₀ sums₀ off on : List ℕ) (c failed : ℕ) (line sums : List ℕ) : Type 0 where
+  updated : Pass n (steppedAt sums₀ off on q1) sums₀ c sums
+  written : T (all c (movableAt sums₀ off on bound q1)) → Pass n (newAt sums₀ off on q1 q2) line₀ c line
+  line-long : length line ≡ length line₀
+  none-failed : eqb failed 0 ≡ all c (movableAt sums₀ off on bound q1)
+  failed-most : failed ≤ 2 * c
+
 abbrev Inv-loop : tie.InvT-loop
-Inv-loop line₀ sums₀ off on n bound q1 q2 failed₀ c₀ line sums failed c =
-    Pass n (steppedAt sums₀ off on q1) sums₀ c sums × (T (all c (movableAt sums₀ off on bound q1)) → Pass n (newAt sums₀ off on q1 q2) line₀ c line)
-    × (length line ≡ length line₀) × (eqb failed 0 ≡ all c (movableAt sums₀ off on bound q1)) × (failed ≤ 2 * c)
+Inv-loop line₀ sums₀ off on n bound q1 q2 failed₀ c₀ line sums failed c = Done n bound q1 q2 line₀ sums₀ off on c failed line sums
 
 abbrev μ-loop : tie.MeasureT-loop
 μ-loop line₀ sums₀ off on n bound q1 q2 failed₀ c₀ line sums failed c = n - c
@@ -30,13 +37,14 @@ loop-holds : tie.Need-loop-holds Inv-loop μ-loop
 unfolding all
 loop-holds c =
     let s = c .before .before .before .before in
-    let a = s .args in (
-      none-done _ _ (a .sums .now) (s .pre .sums-long),
-      (λ _. none-done _ _ (a .line .now) (s .pre .line-long)),
-      refl,
-      refl,
-      search needs,
-    )
+    let a = s .args in
+    record {
+      updated = none-done _ _ (a .sums .now) (s .pre .sums-long);
+      written = λ t. none-done _ _ (a .line .now) (s .pre .line-long);
+      line-long = refl;
+      none-failed = refl;
+      failed-most = search needs;
+    }
 
 mul-move-sum : tie.Need-mul-move-sum Inv-loop μ-loop
 mul-move-sum c = search needs
@@ -103,17 +111,19 @@ loop-again c =
     let m = c .before .before .move-sum in
     let t = c .before .before .before .before .before .before .loop-test .taken in
     let good = movableAt (a .sums .now) (a .off .now) (a .on .now) (a .bound) (a .q1) in
-    let at = next-place (h .0) 0 in
+    let at = next-place (h .updated) 0 in
     let sum : m .result .sum ≡ steppedAt (a .sums .now) (a .off .now) (a .on .now) (a .q1) k = rw at at (m .ensures .1 .1) in
-    let e : all (k + 1) good ≡ (all k good && good k) = rw (add-one k) (all-suc k good) in (
-      one-more (h .0) t sum,
-      (λ p.
+    let e : all (k + 1) good ≡ (all k good && good k) = rw (add-one k) (all-suc k good) in
+    record {
+      updated = one-more (h .updated) t sum;
+      written =
+          λ p.
           let b = and-yes (all k good) (good k) (subst T e p) in
-          one-more (h .1 (b .0)) t (ap (λ x. x / 2 ^ a .q2) (sum ∙ step-exact _ _ _ (a .bound) (s .pre .bound-most) (b .1)))),
-      length-set (l .loop .line) k _ ∙ h .2,
-      none-more (l .loop .failed) (m .result .past) ∙ ap₂ _&&_ (h .3) (rw at at (m .ensures .0)) ∙ sym e,
-      omega (arith, m .ensures),
-    )
+          one-more (h .written (b .0)) t (ap (λ x. x / 2 ^ a .q2) (sum ∙ step-exact _ _ _ (a .bound) (s .pre .bound-most) (b .1)));
+      line-long = length-set (l .loop .line) k _ ∙ h .line-long;
+      none-failed = none-more (l .loop .failed) (m .result .past) ∙ ap₂ _&&_ (h .none-failed) (rw at at (m .ensures .0)) ∙ sym e;
+      failed-most = omega (arith, m .ensures);
+    }
 
 same-length : tie.Need-same-length Inv-loop μ-loop
 same-length c = search needs
@@ -126,9 +136,10 @@ returns c =
     let a = c .before .before .before .before .before .before .args in
     let h = c .before .loop .inv in
     let o = c .loop-test .left in
+    let u = h .updated .count in
     let e : c .before .loop .c ≡ a .n = omega arith in (
-      h .3 ∙ ap (λ n. all n (movableAt (a .sums .now) (a .off .now) (a .on .now) (a .bound) (a .q1))) e,
-      ((λ g. all-done (h .1 (subst T (h .3) g)) o), all-done (h .0) o),
+      h .none-failed ∙ ap (λ n. all n (movableAt (a .sums .now) (a .off .now) (a .on .now) (a .bound) (a .q1))) e,
+      ((λ g. all-done (h .written (subst T (h .none-failed) g)) o), all-done (h .updated) o),
     )
 
 pub update-sums-spec : {M : Type 1} → statement M

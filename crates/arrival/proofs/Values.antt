@@ -1,4 +1,4 @@
--- What an arrival that passes question 19 leaves.
+-- The values of an arrival that passes question 19: how large they are, and their pixels.
 -- Assumes nothing.
 use Prim.Native.Nat.{ℕ, _+_, _-_, _*_, _/_, _^_, _≤_, _<_, zero-le}
 use native.Mathlib.Nat.{le-of-eq, mul-le-mul-left}
@@ -30,8 +30,6 @@ use Rattle.passes.specs.Passes.{bias, rounded}
 use Rattle.arrival.specs.Rectangles.{Accumulated}
 use Rattle.arrival.proofs.Lines.{cut-le}
 use Rattle.arrival.proofs.Carries.{good-at}
-
--- ---- values
 
 -- M·(2^(b - q1) - 1), scaled back, is at most M·(2^b - 1)
 most-scaled : (t : Table) (d : Rect) → t .q1 ≤ t .b → sumMost t d * 2 ^ t .q1 ≤ rowsOf d * (2 ^ t .b - 1)
