@@ -1,8 +1,9 @@
 -- Laws of tests.
 -- Assumes nothing.
-use mathlib.Core.Path.{_≡_, refl}
-use mathlib.Core.Bool.{Bool, true, false}
+use mathlib.Core.Path.{_≡_, refl, sym, _∙_}
+use mathlib.Core.Bool.{Bool, true, false, not}
 use lib.Dec.{T}
+use borrow.Author.Tests.{not-true, not-false}
 
 -- two tests that hold together are equal
 pub bool-eq : (a b : Bool) → (T a → T b) → (T b → T a) → a ≡ b
@@ -14,3 +15,10 @@ bool-eq false false f g = refl
 pub true-of : (a : Bool) → T a → a ≡ true
 true-of true t = refl
 true-of false t = absurd t
+
+-- what a test `!g` says of the definition that g equals
+pub yes : {g s : Bool} → g ≡ s → not g ≡ false → s ≡ true
+yes e h = sym e ∙ not-false _ h
+
+pub no : {g s : Bool} → g ≡ s → not g ≡ true → s ≡ false
+no e h = sym e ∙ not-true _ h

@@ -1,16 +1,25 @@
--- Lines of equal length one after the other.
+-- A store of whole lines: what a pass over lines has reached, and what not.
 -- Assumes nothing.
-use Prim.Native.Nat.{ℕ, zero, suc, _+_, _*_, _≤_, _<_}
-use native.Mathlib.Nat.{not-suc-le-zero, le-suc-iff, suc-inj, le-step, lt-suc-self}
+use Prim.Native.Nat.{ℕ, zero, suc, _+_, _-_, _*_, _≤_, _<_}
+use native.Mathlib.Nat.{le-step, lt-suc-self, le-suc-iff, suc-inj, not-suc-le-zero, zero-mul}
+use native.Mathlib.Numerals.{add-one}
 use native.Mathlib.Omega.{arith}
 use mathlib.Core.Path.{_≡_, refl, sym, ap, ap₂, _∙_}
 use mathlib.Core.Logic.{⊎-elim}
 use mathlib.Core.List.{List, _++_, append-assoc}
 use lib.ListN.{length, getD, take, drop, List·getD-append}
-use lib.Seq.{getD-append-add, take-at, drop-at, drop-drop}
+use lib.Seq.{getD-append-add, getD-drop, take-at, drop-at, drop-drop}
+use borrow.Rule.Slice.PartMut.{putMid, put-same}
 use Rattle.arith.specs.Tab.{tab, grid, paste}
-use Rattle.arith.proofs.Tabs.{length-tab, getD-tab, tab-cong}
-use Rattle.arith.proofs.Passes.{length-grid, grid-suc}
+use Rattle.arith.proofs.Tabs.{tab-cong, getD-tab, length-tab}
+use Rattle.arith.proofs.Passes.{length-grid, grid-suc, grid-none, grid-line, pass-whole}
+use Rattle.arith.proofs.Parts.{part, part-length, part-tab}
+
+-- a line that a pass of whole lines has not reached
+pub grid-next : (k l : ℕ) (f : ℕ → ℕ → ℕ) (xs : List ℕ) (c : ℕ) → getD (grid k l f ++ drop (k * l) xs) (k * l + c) 0 ≡ getD xs (k * l + c) 0
+grid-next k l f xs c =
+    let e : k * l + c ≡ length (grid k l f) + c = let n = length-grid k l f in omega arith in
+    ap (λ i. getD (grid k l f ++ drop (k * l) xs) i 0) e ∙ getD-append-add (grid k l f) (drop (k * l) xs) c 0 ∙ getD-drop (k * l) xs c 0
 
 module _ {A : Type 0} where
   -- place c of line k
@@ -46,3 +55,25 @@ module _ {A : Type 0} where
       ap (λ i. take (k * l) (grid k l f ++ drop (k * l) xs) ++ tab l (f k) ++ drop i (grid k l f ++ drop (k * l) xs)) e
       ∙ ap₂ (λ a c. a ++ tab l (f k) ++ c) (take-at (grid k l f) (drop (k * l) xs) (k * l) n) b
       ∙ ap (λ g. g ++ drop (suc k * l) xs) (sym (grid-suc k l f))
+
+-- a pass that writes what stands there
+pub grid-own : (n l : ℕ) (xs : List ℕ) → n * l ≤ length xs → grid n l (λ k c. getD xs (k * l + c) 0) ++ drop (n * l) xs ≡ xs
+grid-own zero l xs h = rw (zero-mul l) (sym (grid-none l _ xs))
+grid-own (suc n) l xs h =
+    let f : ℕ → ℕ → ℕ = λ k c. getD xs (k * l + c) 0 in
+    let e : n * l + l - n * l ≡ l = omega arith in
+    sym (grid-line n l f xs (tab l (f n)) refl) ∙ ap (λ ys. putMid (n * l) l ys (tab l (f n))) (grid-own n l xs (omega arith))
+    ∙ ap (putMid (n * l) l xs) (sym (rw e at (part-tab (n * l) l xs (omega arith)))) ∙ put-same (n * l) l xs
+
+-- one line more
+pub next-line : (k l : ℕ) (f : ℕ → ℕ → ℕ) (xs : List ℕ) {now : List ℕ} {g : ℕ → ℕ} → now ≡ grid k l f ++ drop (k * l) xs → ((c : ℕ) → g c ≡ f k c)
+    → putMid (k * l) l now (tab l g) ≡ grid (k + 1) l f ++ drop ((k + 1) * l) xs
+next-line k l f xs {now} {g} e h =
+    rw (add-one k) (ap (λ ys. putMid (k * l) l ys (tab l g)) e ∙ grid-line k l f xs (tab l g) (tab-cong l (λ c i. h c)))
+
+-- a line that is lent, `&mut s[p..p + l]`, and comes back from a pass over it
+pub line-written : (p l : ℕ) (xs : List ℕ) {ys : List ℕ} {f g : ℕ → ℕ} → p + l ≤ length xs → ys ≡ tab l f ++ drop l (part p l xs)
+    → ((c : ℕ) → c < l → f c ≡ g c) → putMid p (p + l - p) xs ys ≡ putMid p l xs (tab l g)
+line-written p l xs h e i =
+    let n : p + l - p ≡ l = omega arith in
+    ap₂ (λ j ys. putMid p j xs ys) n (e ∙ pass-whole l (part p l xs) (part-length p l xs h) i)

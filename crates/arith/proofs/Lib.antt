@@ -14,4 +14,5 @@ pub mod Every
 pub mod Logs
 pub mod Parts
 pub mod Bias
+pub mod Pastes
 pub mod Grids

@@ -1,14 +1,15 @@
 -- Parts of a slice that are lent, and come back.
 -- Assumes nothing.
-use Prim.Native.Nat.{ℕ, _+_, _-_, _≤_}
+use Prim.Native.Nat.{ℕ, _+_, _-_, _*_, _≤_, _<_}
 use native.Mathlib.Omega.{arith}
-use native.Mathlib.Nat.{le-of-eq}
+use native.Mathlib.Nat.{le-of-eq, le-refl, mul-le-mul}
 use mathlib.Core.Path.{_≡_, sym, ap, _∙_}
-use mathlib.Core.List.{List, [], _++_, append-nil, append-assoc}
-use lib.ListN.{length, take, drop, length-drop, drop-of-length-le, take-append-drop}
-use lib.Seq.{take-all, take-add, drop-drop, length-take-le}
+use mathlib.Core.List.{List, _++_, append-nil, append-assoc}
+use lib.ListN.{length, getD, take, drop, length-drop, drop-of-length-le, take-append-drop}
+use lib.Seq.{take-all, take-add, drop-drop, getD-take, getD-drop, length-take-le}
 use borrow.Rule.Slice.PartMut.{putMid}
-use Rattle.arith.specs.Tab.{paste}
+use Rattle.arith.specs.Tab.{tab, paste}
+use Rattle.arith.proofs.Tabs.{tab-cong, tab-getD}
 
 module _ {A : Type 0} where
   -- `&s[a..]` is what lies from a on
@@ -20,6 +21,33 @@ module _ {A : Type 0} where
   tail-back a xs ys =
       ap (λ l. take a xs ++ (ys ++ l)) (drop-of-length-le (drop a xs) {i = length xs - a} (le-of-eq (length-drop a xs)))
       ∙ ap (λ l. take a xs ++ l) (append-nil ys)
+
+-- `&s[0..l]`, the first l places
+pub first-tab : (n l : ℕ) (xs : List ℕ) → n ≡ l → l ≤ length xs → take n xs ≡ tab l (λ c. getD xs c 0)
+first-tab n l xs e h =
+    ap (λ m. take m xs) e ∙ sym (tab-getD (take l xs) l 0 (length-take-le l xs h)) ∙ tab-cong l (λ c i. getD-take l xs c 0 i)
+
+-- `&s[p..p + l]`, the l places from place p on
+module _ (p l : ℕ) (xs : List ℕ) where
+  abbrev pub part : List ℕ
+  part = take (p + l - p) (drop p xs)
+
+  pub part-at : (c : ℕ) → c < l → getD part c 0 ≡ getD xs (p + c) 0
+  part-at c h =
+      let e : p + l - p ≡ l = omega arith in
+      rw e (getD-take l (drop p xs) c 0 h ∙ getD-drop p xs c 0)
+
+  pub part-length : p + l ≤ length xs → length part ≡ l
+  part-length h =
+      let d = length-drop p xs in
+      length-take-le (p + l - p) (drop p xs) (omega arith) ∙ omega arith
+
+  pub part-tab : p + l ≤ length xs → part ≡ tab l (λ c. getD xs (p + c) 0)
+  part-tab h = sym (tab-getD part l 0 (part-length h)) ∙ tab-cong l part-at
+
+-- line k of n lines of l places
+pub line-end : (k n l long : ℕ) → k < n → n * l ≤ long → k * l + l ≤ long
+line-end k n l long h g = let m = mul-le-mul h (le-refl l) in omega arith
 
 module _ {A : Type 0} (p l : ℕ) (xs : List A) where
   -- `&s[p..p + l]` is l places from p on

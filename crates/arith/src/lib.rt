@@ -1,5 +1,5 @@
-// Arithmetic that has nothing to do with filters: bounded sums, truncation by a power of two, integers and
-// their words, floor division, ⟨log2 n⟩. The definitions stand in specs/, what is proved of them in proofs/.
+// Inner: arithmetic that has nothing to do with filters. Bounded sums, passes over a store, truncation by a power of two, integers
+// and their words, floor division, ⟨log2 n⟩. The definitions stand in specs/, what is proved of them in proofs/.
 mod floor;
 mod log;
 mod natural;

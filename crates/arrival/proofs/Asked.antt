@@ -1,17 +1,21 @@
 -- What the questions before 19 tell of the stores.
 -- Assumes nothing.
 use Prim.Native.Nat.{ℕ, _*_, _/_, _≤_, _<_}
-use native.Mathlib.Nat.{le-of-eq, div-mul-le-self, lt-div-mul-add, mul-le-mul-left}
+use native.Mathlib.Nat.{div-mul-le-self, lt-div-mul-add, mul-le-mul-left}
 use native.Mathlib.Omega.{arith}
 use mathlib.Core.Path.{_≡_, sym, subst}
 use mathlib.Core.Bool.{Bool, true, false, not, _&&_}
+use mathlib.Core.List.{List}
 use lib.Dec.{T, leb, leb→le, nleb→lt}
 use lib.ListN.{length}
 use borrow.Author.Tests.{le-leb, lt-leb}
 use mir.Facts.{and-yes}
 use Rattle.arith.proofs.Bools.{true-of}
+use Rattle.layout.specs.Measure.{delayOf}
 use Rattle.arrival.specs.Arrivals.{Arrival, storesGood, Fits}
-use Rattle.arrival.specs.Passes.{Room}
+use Rattle.arrival.specs.Rectangles.{Zeros, StepFits}
+use Rattle.arrival.proofs.Carries.{withSums}
+use Rattle.arrival.proofs.Delays.{delay-most}
 
 -- n holds k·l where n / k holds l
 pub divided : (k l n : ℕ) → 0 < k → leb (k * l) n ≡ leb l (n / k)
@@ -42,13 +46,24 @@ lent-bounds l count samples sums out e =
     let b = stores-bounds l count samples sums (true-of _ (h .0)) in
     (b .0, b .1, leb→le l out (h .1))
 
--- what the loops ask of an arrival that fits
-pub room : {v : Arrival} {out : ℕ} → Fits v out → Room (v .table) (v .width) (v .number) (length (v .row)) (length (v .samples)) (length (v .sums))
-room f =
+-- what the steps of an arrival that fits ask
+pub steps-fit : {v : Arrival} {out delay : ℕ} {zeros : List ℕ} → Fits v out → delay ≡ delayOf (v .table) → Zeros zeros → StepFits v delay zeros
+steps-fit {v} f d z =
     record {
-      width-most = f .width-most;
-      number-most = f .number-most;
-      row-long = le-of-eq (sym (f .long));
-      samples-long = f .samples-long;
+      table = f .table;
+      delay-is = d;
+      edges =
+          record {
+            width-most = f .width-most;
+            number-most = f .number-most;
+            delay-most = let m = delay-most (v .table) (f .table) in omega arith;
+            ring = record { row-long = f .long; samples-long = f .samples-long };
+            zero-row = z;
+          };
       sums-long = f .sums-long;
     }
+
+-- and with other sums, as many
+pub steps-still-fit :
+    {v : Arrival} {delay : ℕ} {now zeros : List ℕ} → StepFits v delay zeros → length now ≡ length (v .sums) → StepFits (withSums v now) delay zeros
+steps-still-fit f e = record { table = f .table; delay-is = f .delay-is; edges = f .edges; sums-long = rw e (f .sums-long) }

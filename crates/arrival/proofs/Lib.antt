@@ -1,10 +1,8 @@
-pub mod Answered
 pub mod Asked
-pub mod Places
-pub mod Moves
 pub mod Lines
 pub mod Delays
 pub mod Carries
+pub mod Columns
 pub mod Parts
-pub mod Taken
+pub mod Values
 pub mod Theorems

@@ -1,4 +1,4 @@
--- One rectangle at an arrival: its line of cut column sums, and the values with its part.
+-- One rectangle at an arrival: its line of truncated column sums, and the values with its part.
 -- Assumes nothing.
 use Prim.Native.Nat.{ℕ, zero, suc, _+_, _-_, _*_, _/_, _^_, _≤_, _<_, zero-le}
 use native.Mathlib.Omega.{arith}
@@ -29,27 +29,28 @@ use Rattle.layout.specs.Measure.{colsOf}
 use Rattle.limits.specs.Limits.{acceptable}
 use Rattle.limits.proofs.Granted.{granted}
 use Rattle.rule.specs.Sums.{covered}
-use Rattle.arrival.specs.Arrivals.{Arrival, leaving, entering, stored, newSum, sumMost, sumGood, lineAt, windowAt, scaledAt}
-use Rattle.arrival.specs.Passes.{movable, stepped, movedSum, lineFrom, lineSum, weighed, withPart, Weighed, Blank, Dark}
-use Rattle.arrival.proofs.Taken.{line-most, scaled-most}
+use Rattle.arrival.specs.Arrivals.{Arrival, newSum, sumMost, sumGood, lineAt, windowAt, scaledAt}
+use Rattle.passes.specs.Passes.{bias, valueMost, partMost, scaledEnd}
+use Rattle.arrival.specs.Rectangles.{lineFrom, lineSum, withLine, withPart, Accumulated, ZeroPadded, Zeros}
+use Rattle.arrival.proofs.Values.{line-most, scaled-most}
 
 -- ---- the line
 
 append-at : (p q : List ℕ) (n j : ℕ) → length p ≡ n → getD (p ++ q) (n + j) 0 ≡ getD q j 0
 append-at p q n j e = ap (λ i. getD (p ++ q) (i + j) 0) (sym e) ∙ getD-append-add p q j 0
 
--- w numbers in a blank line from place 16 on
-module _ (line ys : List ℕ) (w : ℕ) (blank : Blank w line) (few : length ys ≡ w) where
+-- w numbers in a padded line from place 16 on
+module _ (line ys : List ℕ) (w : ℕ) (padded : ZeroPadded w line) (few : length ys ≡ w) where
   abbrev put : List ℕ
   put = putMid 16 (16 + w - 16) line ys
 
   long : 16 ≤ length line
-  long = let l = blank .places in omega arith
+  long = let l = padded .places in omega arith
 
   before-column : (i : ℕ) → i < 16 → getD put i 0 ≡ 0
   before-column i h =
       let l = length-take-le 16 line long in
-      List·getD-append (take 16 line) (ys ++ postOf 16 (16 + w - 16) line) 0 i (omega arith) ∙ getD-take 16 line i 0 h ∙ blank .before i h
+      List·getD-append (take 16 line) (ys ++ postOf 16 (16 + w - 16) line) 0 i (omega arith) ∙ getD-take 16 line i 0 h ∙ padded .before i h
 
   in-column : (j : ℕ) → j < w → getD put (16 + j) 0 ≡ getD ys j 0
   in-column j h =
@@ -61,70 +62,57 @@ module _ (line ys : List ℕ) (w : ℕ) (blank : Blank w line) (few : length ys 
       let e : j ≡ w + (j - w) = omega arith in
       append-at (take 16 line) (ys ++ postOf 16 (16 + w - 16) line) 16 j (length-take-le 16 line long)
       ∙ ap (λ i. getD (ys ++ postOf 16 (16 + w - 16) line) i 0) e ∙ append-at ys (postOf 16 (16 + w - 16) line) w (j - w) few
-      ∙ getD-drop (16 + w - 16) (drop 16 line) (j - w) 0 ∙ getD-drop 16 line (16 + w - 16 + (j - w)) 0 ∙ blank .after _ (omega arith)
+      ∙ getD-drop (16 + w - 16) (drop 16 line) (j - w) 0 ∙ getD-drop 16 line (16 + w - 16 + (j - w)) 0 ∙ padded .after _ (omega arith)
 
-  pub blank-put : length put ≡ length line → Blank w put
-  blank-put l =
+  pub padded-put : length put ≡ length line → ZeroPadded w put
+  padded-put l =
       record {
-        places = l ∙ blank .places;
+        places = l ∙ padded .places;
         before = before-column;
         after = λ i h. let e : i ≡ 16 + (i - 16) = omega arith in ap (λ m. getD put m 0) e ∙ after-column (i - 16) (omega arith);
       }
 
--- a line of zeros is blank, and such a row is dark
+-- a line of zeros is padded with zeros, and such a row is zeros
 zero-at : (n i : ℕ) → getD {A = ℕ} (replicate n 0) i 0 ≡ 0
 zero-at zero i = refl
 zero-at (suc n) zero = refl
 zero-at (suc n) (suc i) = zero-at n i
 
-pub blank-none : (w : ℕ) → Blank w (replicate 1056 0)
-blank-none w = record { places = length-replicate {A = ℕ} 1056 0; before = λ i h. zero-at 1056 i; after = λ i h. zero-at 1056 i }
+pub padded-none : (w : ℕ) → ZeroPadded w (replicate 1056 0)
+padded-none w = record { places = length-replicate {A = ℕ} 1056 0; before = λ i h. zero-at 1056 i; after = λ i h. zero-at 1056 i }
 
-pub dark-none : Dark (replicate 1024 0)
-dark-none = record { long = length-replicate {A = ℕ} 1024 0; none = zero-at 1024 }
+pub zeros-none : Zeros (replicate 1024 0)
+zeros-none = record { long = length-replicate {A = ℕ} 1024 0; none = zero-at 1024 }
 
--- the cut column sums of rectangle k from place 16 on, and zeros elsewhere
-pub record Lined (v : Arrival) (k : ℕ) (line : List ℕ) : Type 0 where
+-- the truncated column sums of rectangle k from place 16 on, and zeros elsewhere
+pub record LineHolds (v : Arrival) (k : ℕ) (line : List ℕ) : Type 0 where
   pub before : (i : ℕ) → i < 16 → getD line i 0 ≡ 0
   pub column : (j : ℤ) → lineFrom line j ≡ lineAt v k j / 2 ^ v .table .q2
 
-pub lined :
-    (v : Arrival) (k : ℕ) (line ys : List ℕ) → Blank (v .width) line → ys ≡ tab (v .width) (λ c. newSum v k c / 2 ^ v .table .q2)
-    → Lined v k (putMid 16 (16 + v .width - 16) line ys)
+pub line-holds :
+    (v : Arrival) (k : ℕ) (line ys : List ℕ) → ZeroPadded (v .width) line → ys ≡ tab (v .width) (λ c. newSum v k c / 2 ^ v .table .q2)
+    → LineHolds v k (putMid 16 (16 + v .width - 16) line ys)
 unfolding lineFrom lineAt
-lined v k line ys blank e = record { before = before-column line ys (v .width) blank few; column = column }
+line-holds v k line ys padded e = record { before = before-column line ys (v .width) padded few; column = column }
   where
     few : length ys ≡ v .width
     few = ap length e ∙ length-tab (v .width) _
 
-    at : (j : ℕ) (c : Bool) → (T c → j < v .width) → (T (not c) → v .width ≤ j) → getD (putMid 16 (16 + v .width - 16) line ys) (16 + j) 0 ≡ cond c (newSum v k j) 0 / 2 ^ v .table .q2
+    at :
+        (j : ℕ) (c : Bool) → (T c → j < v .width) → (T (not c) → v .width ≤ j)
+        → getD (putMid 16 (16 + v .width - 16) line ys) (16 + j) 0 ≡ cond c (newSum v k j) 0 / 2 ^ v .table .q2
     at j true y n =
-        in-column line ys (v .width) blank few j (y tt) ∙ ap (λ xs. getD xs j 0) e ∙ getD-tab (v .width) (λ c. newSum v k c / 2 ^ v .table .q2) j 0 (y tt)
-    at j false y n = after-column line ys (v .width) blank few j (n tt) ∙ sym (zero-div (2 ^ v .table .q2))
+        in-column line ys (v .width) padded few j (y tt) ∙ ap (λ xs. getD xs j 0) e
+        ∙ getD-tab (v .width) (λ c. newSum v k c / 2 ^ v .table .q2) j 0 (y tt)
+    at j false y n = after-column line ys (v .width) padded few j (n tt) ∙ sym (zero-div (2 ^ v .table .q2))
 
     column : (j : ℤ) → lineFrom (putMid 16 (16 + v .width - 16) line ys) j ≡ lineAt v k j / 2 ^ v .table .q2
     column (pos j) = at j (ltb j (v .width)) (ltb→lt j (v .width)) (nltb→le j (v .width))
     column (negsuc j) = sym (zero-div (2 ^ v .table .q2))
 
--- question 19 of a column, and its new sum where it holds, by what the passes read
-module _
-    (v : Arrival) (k c : ℕ) {s off on bound : ℕ} (es : s ≡ stored v k c) (eo : off ≡ leaving v k c) (en : on ≡ entering v k c)
-    (eb : bound ≡ sumMost (v .table) (rect (v .table) k)) where
-  pub movable-good : movable s off on bound ≡ sumGood v k c
-  unfolding sumGood newSum
-  movable-good = rw (es, eo, en, eb)
-
-  pub moved-new : s - off + on ≡ newSum v k c
-  unfolding newSum
-  moved-new = rw (es, eo, en)
-
-  pub moved-sum : stepped s off on ≡ movedSum v k c
-  unfolding movedSum
-  moved-sum = rw (es, eo, en)
-
 -- where question 19 holds, each place is within the bound
 module _ (v : Arrival) (k : ℕ) (good : T (all (v .width) (sumGood v k))) where
-  pub in-line : {line : List ℕ} → Lined v k line → (i : ℕ) → getD line i 0 ≤ sumMost (v .table) (rect (v .table) k) / 2 ^ v .table .q2
+  pub in-line : {line : List ℕ} → LineHolds v k line → (i : ℕ) → getD line i 0 ≤ sumMost (v .table) (rect (v .table) k) / 2 ^ v .table .q2
   unfolding lineFrom
   in-line {line} l i = go (ltb i 16) (ltb→lt i 16) (nltb→le i 16)
     where
@@ -138,15 +126,15 @@ module _ (v : Arrival) (k : ℕ) (good : T (all (v .width) (sumGood v k))) where
           le-trans (le-of-eq p) m
 
 -- the windows of the line are those of the rule
-pub line-scaled : (v : Arrival) (k : ℕ) {line : List ℕ} → Lined v k line → (c : ℕ) → lineSum (v .table) (rect (v .table) k) line c ≡ scaledAt v k c
+pub line-scaled : (v : Arrival) (k : ℕ) {line : List ℕ} → LineHolds v k line → (c : ℕ) → lineSum (v .table) (rect (v .table) k) line c ≡ scaledAt v k c
 unfolding lineSum windowAt scaledAt
 line-scaled v k {line} l c =
     ap (λ s. s / 2 ^ v .table .q3 * 2 ^ (v .table .q1 + v .table .q2 + v .table .q3))
     (sum-cong (colsOf (rect (v .table) k)) (λ j h. l .column (covered (pos c) (rect (v .table) k .trailcol) j)))
 
 -- a pass that adds them adds the rectangle's part
-pub line-part : (v : Arrival) (k : ℕ) {line : List ℕ} (acc : List ℕ) → Lined v k line
-    → tab (v .width) (weighed (v .table) (rect (v .table) k) line acc) ≡ tab (v .width) (withPart v k acc)
+pub line-part : (v : Arrival) (k : ℕ) {line : List ℕ} (acc : List ℕ) → LineHolds v k line
+    → tab (v .width) (withLine (v .table) (rect (v .table) k) line acc) ≡ tab (v .width) (withPart v k acc)
 line-part v k acc l = tab-cong (v .width) (λ c h. rw (line-scaled v k l c) refl)
 
 -- ---- the values
@@ -156,7 +144,9 @@ parts-le (pos n) t = let m = fits-mag 16 (pos n) t in (omega arith, zero-le)
 parts-le (negsuc n) t = let m = fits-mag 16 (negsuc n) t in (zero-le, omega arith)
 
 -- the scaled sum that a rectangle adds is below 2^22
-scaled-lt : (v : Arrival) (k : ℕ) → acceptable (v .table) ≡ true → k < v .table .count → T (all (v .width) (sumGood v k)) → (c : ℕ) → scaledAt v k c < 4194304
+scaled-lt :
+    (v : Arrival) (k : ℕ) → acceptable (v .table) ≡ true → k < v .table .count → T (all (v .width) (sumGood v k))
+    → (c : ℕ) → scaledAt v k c < scaledEnd
 scaled-lt v k e h good c =
     let g = granted (v .table) e in
     let b = g .bounds k h in
@@ -170,33 +160,33 @@ few-below : (v : Arrival) (k : ℕ) → acceptable (v .table) ≡ true → k < v
 few-below v k e h = let f = granted (v .table) e .few in omega arith
 
 -- the values leave room for a rectangle more
-pub weighed-room :
-    (v : Arrival) (k : ℕ) → acceptable (v .table) ≡ true → k < v .table .count → {acc : List ℕ} → Weighed v k acc
-    → (c : ℕ) → c < v .width → (137438953472 ≤ getD acc c 0) × (getD acc c 0 ≤ 4398046511104)
-weighed-room v k e h w c p =
-    let f = few-below v k e h in
-    let a = w .low c p in
-    let b = w .high c p in
-    (omega arith, omega arith)
+module _
+    (v : Arrival) (k : ℕ) (e : acceptable (v .table) ≡ true) (h : k < v .table .count) {acc : List ℕ} (w : Accumulated v k acc)
+    (c : ℕ) (p : c < v .width) where
+  pub accumulated-least : partMost ≤ getD acc c 0
+  accumulated-least = let f = few-below v k e h in let a = w .low c p in omega arith
+
+  pub accumulated-most : getD acc c 0 ≤ valueMost
+  accumulated-most = let f = few-below v k e h in let b = w .high c p in omega arith
 
 -- the values with the part of rectangle k
 module _
     (v : Arrival) (k : ℕ) (e : acceptable (v .table) ≡ true) (h : k < v .table .count) (good : T (all (v .width) (sumGood v k)))
-    {acc : List ℕ} (w : Weighed v k acc) where
+    {acc : List ℕ} (w : Accumulated v k acc) where
   abbrev next : ℕ → ℕ
   next c = withPart v k acc c
 
-  above-le : (c : ℕ) → posPart (rect (v .table) k .weight) * scaledAt v k c ≤ 137438953472
+  above-le : (c : ℕ) → posPart (rect (v .table) k .weight) * scaledAt v k c ≤ partMost
   above-le c =
-      let s : scaledAt v k c ≤ 4194304 = let s = scaled-lt v k e h good c in omega arith in
+      let s : scaledAt v k c ≤ scaledEnd = let s = scaled-lt v k e h good c in omega arith in
       mul-le-mul (parts-le _ (granted (v .table) e .weight k h) .0) s
 
-  below-le : (c : ℕ) → negPart (rect (v .table) k .weight) * scaledAt v k c ≤ 137438953472
+  below-le : (c : ℕ) → negPart (rect (v .table) k .weight) * scaledAt v k c ≤ partMost
   below-le c =
-      let s : scaledAt v k c ≤ 4194304 = let s = scaled-lt v k e h good c in omega arith in
+      let s : scaledAt v k c ≤ scaledEnd = let s = scaled-lt v k e h good c in omega arith in
       mul-le-mul (parts-le _ (granted (v .table) e .weight k h) .1) s
 
-  next-value : (c : ℕ) → c < v .width → Diff (sumℤ (k + 1) (λ i. rect (v .table) i .weight *ℤ pos (scaledAt v i c))) (next c) 2199023255552
+  next-value : (c : ℕ) → c < v .width → Diff (sumℤ (k + 1) (λ i. rect (v .table) i .weight *ℤ pos (scaledAt v i c))) (next c) bias
   next-value c p =
       let o = w .low c p in
       let b = below-le c in
@@ -204,14 +194,14 @@ module _
       rw (add-one k, sumℤ-suc k)
       (diff-shift (diff-add (w .value c p) (diff-scale (scaledAt v k c) (diff-parts (rect (v .table) k .weight)))) (omega arith))
 
-  next-low : (c : ℕ) → c < v .width → 2199023255552 ≤ next c + (k + 1) * 137438953472
+  next-low : (c : ℕ) → c < v .width → bias ≤ next c + (k + 1) * partMost
   next-low c p = let o = w .low c p in let b = below-le c in let f = few-below v k e h in omega arith
 
-  next-high : (c : ℕ) → c < v .width → next c ≤ 2199023255552 + (k + 1) * 137438953472
+  next-high : (c : ℕ) → c < v .width → next c ≤ bias + (k + 1) * partMost
   next-high c p = let o = w .high c p in let a = above-le c in omega arith
 
-  pub weighed-next : {acc′ : List ℕ} → v .width ≤ 1024 → acc′ ≡ tab (v .width) next ++ drop (v .width) acc → Weighed v (k + 1) acc′
-  weighed-next {acc′} n is =
+  pub accumulated-next : {acc′ : List ℕ} → v .width ≤ 1024 → acc′ ≡ tab (v .width) next ++ drop (v .width) acc → Accumulated v (k + 1) acc′
+  accumulated-next {acc′} n is =
       record {
         long = rw (ap length is ∙ pass-length (v .width) next acc (le-trans n (w .long))) (w .long);
         value = λ c p. rw (at c p) (next-value c p);

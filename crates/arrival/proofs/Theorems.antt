@@ -21,7 +21,7 @@ use Rattle.layout.proofs.Questions.{AllYes}
 use Rattle.rule.proofs.Fitting.{value-fits}
 use Rattle.arrival.specs.Arrivals.{Arrival, newSum, sumGood, arrivalAsks, lineAt, windowAt, scaledAt, pixelAt}
 use Rattle.arrival.proofs.Carries.{good-at, most-le}
-use Rattle.arrival.proofs.Taken.{line-most, scaled-most}
+use Rattle.arrival.proofs.Values.{line-most, scaled-most}
 
 -- an arrival of a table within the limits that passes question 19, whatever the stores held
 module _ (v : Arrival) (a : acceptable (v .table) ≡ true) (y : AllYes (arrivalAsks v)) where

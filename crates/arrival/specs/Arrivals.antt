@@ -4,7 +4,7 @@ use Prim.Native.Nat.{ℕ, _+_, _-_, _*_, _/_, _%_, _^_, _≤_}
 use mathlib.Core.Path.{_≡_}
 use mathlib.Core.Bool.{Bool, true, cond, _&&_}
 use mathlib.Core.List.{List, [], _∷_, _++_}
-use lib.Dec.{leb, ltb, eqb}
+use lib.Dec.{leb, ltb}
 use lib.ListN.{length, getD, drop}
 use lib.IntN.{ℤ, pos, negsuc, _+ℤ_, _-ℤ_, _*ℤ_}
 use Rattle.arith.specs.Sum.{sum, sumℤ}
@@ -19,6 +19,7 @@ use Rattle.layout.specs.Answers.{Question, asksEach, firstNo}
 use Rattle.layout.specs.Contents.{rect}
 use Rattle.layout.specs.Measure.{rowsOf, colsOf, delayOf}
 use Rattle.limits.specs.Limits.{acceptable}
+use Rattle.ring.specs.Ring.{rowAt}
 use Rattle.rule.specs.Sums.{covered}
 
 -- an arrival: its number, counted from 0, the row that arrives, and the stores that it finds
@@ -35,17 +36,11 @@ abbrev pub arriving : Table → (width number : ℕ) → (row samples sums : Lis
 arriving t width number row samples sums =
     record { table = t; width = width; number = number; row = row; samples = samples; sums = sums }
 
--- row e at column c, at arrival a of a row of l samples: zeros below 0, the arriving row itself, or the one kept from place
--- (e mod 32)·L on
-unfoldable pub rowAt : (l a : ℕ) → (row samples : List ℕ) → (e : ℤ) → (c : ℕ) → ℕ
-rowAt l a row samples (negsuc e) c = 0
-rowAt l a row samples (pos e) c = cond (eqb e a) (getD row c 0) (getD samples (e % 32 * l + c) 0)
-
 -- the row that an edge reaches: a - D + edge
 unfoldable pub edgeRow : Arrival → (edge : ℤ) → ℤ
 edgeRow v edge = (pos (v .number) -ℤ pos (delayOf (v .table))) +ℤ edge
 
--- the cut sample that an edge reaches in column c; the leaving and the entering one of a rectangle
+-- the truncated sample that an edge reaches in column c; the leaving and the entering one of a rectangle
 unfoldable pub cutAt : Arrival → (edge : ℤ) → (c : ℕ) → ℕ
 cutAt v edge c = rowAt (v .width) (v .number) (v .row) (v .samples) (edgeRow v edge) c / 2 ^ v .table .q1
 

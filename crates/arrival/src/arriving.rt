@@ -2,13 +2,13 @@
 ghost use mathlib.Core.Path.{_≡_};
 ghost use lib.ListN.{length};
 ghost use Rattle.arrival.specs.Arrivals.{arriving, storesGood, leaves, arriveOf, Fits};
-use crate::kept::keep_row;
-use crate::rectangles::take_back_first;
+use crate::rectangles::roll_back_first;
 use crate::rectangles::values;
-use crate::rectangles::write_row;
 use layout::Table;
 use layout::Verdict;
 use layout::delay;
+use passes::write_row;
+use ring::keep;
 
 // Question 13, on the lengths of the stores.
 pub fn stores_good(width: usize, count: usize, samples: usize, sums: usize) -> bool
@@ -44,11 +44,10 @@ pub fn arrive(
     let zeros = [0u16; 1024];
     let failed = values(&mut acc, &zeros, t, width, arrival, d, samples, sums, row);
     if failed < t.count {
-        take_back_first(sums, &zeros, t, failed + 1, width, arrival, d, samples, row);
+        roll_back_first(sums, &zeros, t, failed + 1, width, arrival, d, samples, row);
         return Verdict::Refused(19, failed as u32);
     }
-    let p = (arrival % 32) * width;
-    keep_row(&mut samples[p..p + width], row, width);
+    keep(samples, row, width, arrival);
     if d <= arrival {
         write_row(out, &acc, width, t.t);
     }

@@ -14,7 +14,7 @@ use Rattle.layout.specs.Answers.{Said, refused, accepted, waiting, Left, left, 
 use Rattle.layout.specs.Measure.{delayOf}
 use Rattle.layout.proofs.Questions.{first-yes}
 use Rattle.arrival.specs.Arrivals.{arrivalAsks}
-use Rattle.arrival.proofs.Places.{line-end}
+use Rattle.arith.proofs.Parts.{line-end}
 use Rattle.scan.specs.declared.Scan.{Scan}
 use Rattle.scan.specs.Calls.{World, arrivalOf, dueSaid, takenIn, rowIn, rowAsks, rowOf}
 use Rattle.burst.specs.Bursts.{Progress, progress, isRefused, rowSaid, nextLeft, counted, feed}

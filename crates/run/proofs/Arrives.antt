@@ -33,13 +33,13 @@ use Rattle.rule.specs.Pixels.{cutValue, pixelOf}
 use Rattle.rule.proofs.Fitting.{column-most}
 use Rattle.arith.proofs.Bools.{true-of}
 use Rattle.arith.proofs.Grids.{grid-at}
-use Rattle.arrival.specs.Arrivals.{Arrival, sumsAfter, rowAt, edgeRow, cutAt, leaving, entering, stored, newSum, sumMost, sumGood, lineAt, windowAt, scaledAt, pixelAt}
+use Rattle.arrival.specs.Arrivals.{Arrival, sumsAfter, edgeRow, cutAt, leaving, entering, stored, newSum, sumMost, sumGood, lineAt, windowAt, scaledAt, pixelAt}
 use Rattle.rule.proofs.Depends.{lead-most}
 use Rattle.arrival.proofs.Delays.{delay-most}
 use Rattle.rule.proofs.Slides.{column-slide}
 use Rattle.run.proofs.Columns.{leaving-row, entering-row, due-row, next-row}
-use Rattle.run.specs.Holds.{Kept}
-use Rattle.run.proofs.Kept.{row-is}
+use Rattle.ring.specs.Ring.{Kept}
+use Rattle.ring.proofs.Kept.{row-is}
 
 -- a scan of rows of l samples of b bits
 pub record Lies (l b : ℕ) (x : Image) : Type 0 where

@@ -1,5 +1,4 @@
 pub mod Columns
-pub mod Kept
 pub mod Arrives
 pub mod Stores
 pub mod Rows

@@ -20,9 +20,10 @@ use Rattle.rule.specs.Sums.{Image, covered, columnSum}
 use Rattle.rule.proofs.Depends.{covered-most, lead-most, column-same}
 use Rattle.arrival.specs.Arrivals.{storesGood}
 use Rattle.arrival.proofs.Asked.{stores-bounds}
-use Rattle.run.specs.Holds.{Kept, Stores}
+use Rattle.ring.specs.Ring.{Kept}
+use Rattle.run.specs.Holds.{Stores}
 use Rattle.run.proofs.Arrives.{Lies}
-use Rattle.run.proofs.Kept.{kept-none}
+use Rattle.ring.proofs.Kept.{kept-none}
 
 -- no arrival yet, and every column sum 0
 pub stores-none :

@@ -23,8 +23,9 @@ use Rattle.rule.specs.Sums.{Image, columnSum}
 use Rattle.rule.specs.Pixels.{pixelOf}
 use borrow.Author.Tests.{lt-ltb, le-ltb}
 use Rattle.arrival.specs.Arrivals.{Arrival, stored, newSum, sumGood, pixelAt, samplesAfter, sumsAfter, outputAfter}
-use Rattle.run.specs.Holds.{Kept, Stores}
-use Rattle.run.proofs.Kept.{kept-next}
+use Rattle.ring.specs.Ring.{Kept}
+use Rattle.run.specs.Holds.{Stores}
+use Rattle.ring.proofs.Kept.{kept-next}
 use Rattle.run.proofs.Arrives.{Lies, Finds, pixel-is, sums-good, sums-next}
 
 module _ (t : Table) (l : ℕ) (x : Image) (a : ℕ) (row samples sums : List ℕ) where

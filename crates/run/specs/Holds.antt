@@ -1,6 +1,6 @@
 -- What the stores of a scan hold after its arrivals.
 -- Assumes nothing.
-use Prim.Native.Nat.{ℕ, suc, _+_, _*_, _%_, _≤_, _<_}
+use Prim.Native.Nat.{ℕ, suc, _+_, _*_, _≤_, _<_}
 use mathlib.Core.Path.{_≡_}
 use mathlib.Core.Bool.{true}
 use mathlib.Core.List.{List}
@@ -12,6 +12,7 @@ use Rattle.layout.specs.Measure.{delayOf}
 use Rattle.limits.specs.Limits.{acceptable}
 use Rattle.rule.specs.Questions.{widthGood}
 use Rattle.rule.specs.Sums.{Image, columnSum}
+use Rattle.ring.specs.Ring.{Kept}
 use Rattle.arrival.specs.Arrivals.{storesGood}
 
 -- what starting accepts: a table that loading accepts, a width from 1 to 1,024, and stores long enough, whatever they hold
@@ -20,11 +21,7 @@ pub record Starts (t : Table) (l : ℕ) (samples sums : List ℕ) : Type 0 where
   pub width : widthGood l ≡ true
   pub stores : storesGood l (t .count) (length samples) (length sums) ≡ true
 
--- the sample store holds each of the last 32 of a arrivals from its place on
-unfoldable pub Kept : (l : ℕ) → Image → (a : ℕ) → List ℕ → Type 0
-Kept l x a samples = (e c : ℕ) → e < a → a ≤ e + 32 → c < l → getD samples (e % 32 * l + c) 0 ≡ x (pos e) (pos c)
-
--- the stores after a arrivals of x: the sum store holds the column sums of the last of them, row a - 1 - D, at k·L + c
+-- the stores after a arrivals of x: the sample store holds the last 32 of them, the sum store holds the column sums of the last of them, row a - 1 - D, at k·L + c
 pub record Stores (t : Table) (l : ℕ) (x : Image) (a : ℕ) (samples sums : List ℕ) : Type 0 where
   pub samples-long : 32 * l ≤ length samples
   pub sums-long : t .count * l ≤ length sums

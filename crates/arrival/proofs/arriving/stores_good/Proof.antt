@@ -1,3 +1,5 @@
+-- `arrival::stores_good` divides where the definition multiplies, so that nothing wraps: k·l ≤ n exactly when l ≤ n / k (`divided`).
+-- Assumes nothing.
 use Rattle.arrival.proofs.Asked.{divided}
 use Rattle.arrival.specs.Arrivals.{storesGood}
 use borrow.Author.Tests.{le-leb, lt-leb}
@@ -7,29 +9,27 @@ use Prim.Native.Nat.{zero-le}
 use borrow.Author.Needs.{needs}
 use Rattle.arrival.proofs.arriving.stores_good.Statement.{statement}
 use Rattle.arrival.proofs.arriving.stores_good.Tie as tie
-use Rattle.arrival.proofs.arriving.stores_good.Reads as reads
-use Rattle.arrival.proofs.arriving.stores_good.Lts as lts
 
--- src/arriving.rt:24:9
 returns : tie.Need-returns
 unfolding storesGood
 returns c = rw (divided 32 (c .before .args .width) (c .before .args .samples) (search needs), lt-leb _ _ (c .if1 .taken)) refl
 
--- src/arriving.rt:27:9
 returns-2 : tie.Need-returns-2
 unfolding storesGood
-returns-2 c = let z = c .before .before in
-    rw (divided 32 (z .args .width) (z .args .samples) (search needs), le-leb _ _ (c .before .if1 .left), c .if2 .taken, zero-mul (z .args .width), le-leb 0 (z .args .sums) zero-le) refl
+returns-2 c =
+    let a = c .before .before .args in
+    rw (divided 32 (a .width) (a .samples) (search needs), le-leb _ _ (c .before .if1 .left), c .if2 .taken, zero-mul (a .width))
+    (rw (le-leb 0 (a .sums) zero-le) refl)
 
--- src/arriving.rt:29:14
 div-result : tie.Need-div-result
 div-result c = search needs
 
--- src/arriving.rt:20:1
 returns-3 : tie.Need-returns-3
 unfolding storesGood
-returns-3 c = let z = c .before .before in
-    rw (divided 32 (z .args .width) (z .args .samples) (search needs), le-leb _ _ (c .before .if1 .left)) (sym (divided (z .args .count) (z .args .width) (z .args .sums) (search needs)))
+returns-3 c =
+    let a = c .before .before .args in
+    rw (divided 32 (a .width) (a .samples) (search needs), le-leb _ _ (c .before .if1 .left))
+    (sym (divided (a .count) (a .width) (a .sums) (search needs)))
 
 pub stores-good-spec : {M : Type 1} → statement M
 stores-good-spec = tie.close (tie.spec returns returns-2 div-result returns-3)

@@ -1,3 +1,5 @@
+-- `arrival::sum_most` is the product of the definition, at most 31 · 4,095 by the limits of the table.
+-- Assumes nothing.
 use Rattle.arrival.specs.Arrivals.{sumMost}
 use Rattle.limits.proofs.Granted.{Granted, granted}
 use lib.Pow.{pow-pos, pow-mono}
@@ -8,10 +10,6 @@ use Prim.Native.Nat.{_-_, _*_, _^_, _≤_, _<_}
 use borrow.Author.Needs.{needs}
 use Rattle.arrival.proofs.rectangles.sum_most.Statement.{statement}
 use Rattle.arrival.proofs.rectangles.sum_most.Tie as tie
-use Rattle.arrival.proofs.rectangles.sum_most.Reads as reads
-use Rattle.arrival.proofs.rectangles.sum_most.Lts as lts
-use Rattle.arith.proofs.power.Reads as power-reads
-use Rattle.layout.proofs.rows.Reads as rows-reads
 
 table : (c : tie.Start) → Granted (c .args .t1)
 table c = granted _ (c .pre .0)
@@ -48,39 +46,30 @@ most c =
     let h : c .power .result - 1 ≤ 4095 = let p = power-most c in omega arith in
     mul-le-mul (rows-most c) h
 
--- src/rectangles.rt:63:13
 mul-d : tie.Need-mul-d
 mul-d c = let p = place c in search (needs, p)
 
--- src/rectangles.rt:63:13
 element-copy-out-d : tie.Need-element-copy-out-d
 element-copy-out-d c = let p = place c in search (needs, p)
 
--- src/rectangles.rt:64:5
 rows-requires : tie.Need-rows-requires
 rows-requires c κs = search needs
 
--- src/rectangles.rt:64:22
 sub-power : tie.Need-sub-power
 sub-power c = let q = table (c .before .before) .q1-less in omega arith
 
--- src/rectangles.rt:64:16
 power-requires : tie.Need-power-requires
 power-requires c κs = search needs
 
--- src/rectangles.rt:64:16
 cast-result : tie.Need-cast-result
 cast-result c = let p = power-most c in search (needs, p)
 
--- src/rectangles.rt:64:16
 sub-result : tie.Need-sub-result
 sub-result c = let p = power-most c in let q = power-least c in search (needs, p, q)
 
--- src/rectangles.rt:64:5
 mul-result : tie.Need-mul-result
 mul-result c = let p = power-most c in let q = power-least c in let m = most c in search (needs, p, q, m)
 
--- src/rectangles.rt:58:1
 returns : tie.Need-returns
 unfolding sumMost
 returns c = (rw (← c .before .rows .ensures .0, ← power-is c) refl, most c)

@@ -1,15 +1,20 @@
+-- `arrival::values` goes over the rectangles: each finds its own sums as they were, so its answer and its part are those of the
+-- arrival, and the loop stops at the first that fails.
+-- Assumes nothing.
 use Rattle.limits.proofs.Granted.{granted}
-use Rattle.arrival.proofs.Answered.{no}
-use Rattle.arrival.proofs.Parts.{blank-none, weighed-room, weighed-next}
-use Rattle.arrival.specs.Passes.{movedSum, Weighed, Blank}
+use Rattle.arith.proofs.Bools.{no}
+use Rattle.arrival.proofs.Parts.{padded-none, accumulated-least, accumulated-most, accumulated-next}
+use Rattle.arrival.specs.Rectangles.{updatedSum, Accumulated, ZeroPadded}
 use Rattle.arrival.specs.Arrivals.{Arrival, arriving, sumGood}
 use Rattle.arith.proofs.Firsts.{first-at, first-none}
 use Rattle.arith.proofs.Alls.{up-to}
 use Rattle.arith.specs.All.{all}
 use Rattle.arith.specs.Tab.{grid}
+use Rattle.arith.proofs.Grids.{next-line}
 use Rattle.arith.proofs.Passes.{grid-none}
-use Rattle.arrival.proofs.Carries.{same-good, same-moved, same-part, next-line, all-moved}
-use mathlib.Core.List.{_++_}
+use Rattle.arrival.proofs.Asked.{steps-still-fit}
+use Rattle.arrival.proofs.Carries.{same-good, same-updated, same-part, all-updated}
+use mathlib.Core.List.{List, _++_}
 use borrow.Author.Tests.{not-false}
 use denote.Ref.{now}
 use lib.ListN.{length, drop, length-replicate}
@@ -22,21 +27,28 @@ use Prim.Native.Nat.{ℕ, _+_, _-_, _*_, _≤_, _<_, zero-le}
 use borrow.Author.Needs.{needs}
 use Rattle.arrival.proofs.rectangles.values.Statement.{statement}
 use Rattle.arrival.proofs.rectangles.values.Tie as tie
-use Rattle.arrival.proofs.rectangles.values.Reads as reads
-use Rattle.arrival.proofs.rectangles.values.Lts as lts
-use Rattle.arrival.proofs.rectangles.rectangle.Reads as rectangle-reads
 
 -- question 19 of rectangle j
 abbrev passes : Arrival → ℕ → Bool
 passes v j = all (v .width) (sumGood v j)
 
+-- the first k rectangles are done
+record Done (v : Arrival) (k count : ℕ) (acc₀ acc line prefixes sums : List ℕ) : Type 0 where
+  count-most : k ≤ count
+  good : (j : ℕ) → j < k → T (passes v j)
+  values : Accumulated v k acc
+  acc-long : length acc ≡ length acc₀
+  padded : ZeroPadded (v .width) line
+  prefixes-long : length prefixes ≡ 1056
+  updated : sums ≡ grid k (v .width) (updatedSum v) ++ drop (k * v .width) (v .sums)
+  sums-long : length sums ≡ length (v .sums)
+
 abbrev Inv-loop : tie.InvT-loop
-Inv-loop acc₀ zeros t width arrival delay samples sums₀ row count line₀ runs₀ k₀ acc sums line runs k = let v = arriving t width arrival row samples sums₀ in
-    (k ≤ count) × ((j : ℕ) → j < k → T (passes v j)) × Weighed v k acc × (length acc ≡ length acc₀) × Blank width line × (length runs ≡ 1056)
-    × (sums ≡ grid k width (movedSum v) ++ drop (k * width) sums₀) × (length sums ≡ length sums₀)
+Inv-loop acc₀ zeros t width arrival delay samples sums₀ row count line₀ prefixes₀ k₀ acc sums line prefixes k =
+    Done (arriving t width arrival row samples sums₀) k count acc₀ acc line prefixes sums
 
 abbrev μ-loop : tie.MeasureT-loop
-μ-loop acc₀ zeros t width arrival delay samples sums₀ row count line₀ runs₀ k₀ acc sums line runs k = count - k
+μ-loop acc₀ zeros t width arrival delay samples sums₀ row count line₀ prefixes₀ k₀ acc sums line prefixes k = count - k
 
 -- what arrives
 abbrev arrived : tie.Start Inv-loop μ-loop → Arrival
@@ -51,127 +63,132 @@ module _ (r : tie.After-rectangle Inv-loop μ-loop) where
   s = l .before .before .before .before .before .before
 
   answered : r .rectangle .result ≡ passes (arrived s) (l .loop .k)
-  answered =
-      let a = s .args in
-      r .rectangle .ensures .0 ∙ same-good (a .t) (a .width) (a .arrival) (now (a .row)) (now (a .samples)) (now (a .sums)) (l .loop .k) (movedSum (arrived s)) (l .loop .inv .6)
+  answered = r .rectangle .ensures .answer ∙ same-good (arrived s) (l .loop .k) (updatedSum (arrived s)) (l .loop .inv .updated)
 
-  moved : r .rectangle .last .1 .1 .1 .1 .1 .1 .1 .1 .1 .1 .0 ≡ grid (l .loop .k + 1) (s .args .width) (movedSum (arrived s)) ++ drop ((l .loop .k + 1) * s .args .width) (now (s .args .sums))
-  moved =
-      let a = s .args in
-      let f = movedSum (arrived s) in
-      r .rectangle .ensures .1 .1 .0
-      ∙ next-line (l .loop .k) (a .width) f (now (a .sums)) (l .loop .inv .6)
-      (same-moved (a .t) (a .width) (a .arrival) (now (a .row)) (now (a .samples)) (now (a .sums)) (l .loop .k) f (l .loop .inv .6))
+  updated :
+      r .rectangle .last .1 .1 .1 .1 .1 .1 .1 .1 .1 .1 .0
+      ≡ grid (l .loop .k + 1) (s .args .width) (updatedSum (arrived s)) ++ drop ((l .loop .k + 1) * s .args .width) (now (s .args .sums))
+  updated =
+      let f = updatedSum (arrived s) in
+      let u = l .loop .inv .updated in
+      r .rectangle .ensures .sums
+      ∙ next-line (l .loop .k) (s .args .width) f (now (s .args .sums)) u (same-updated (arrived s) (l .loop .k) f u)
 
-  more : r .rectangle .result ≡ true → Weighed (arrived s) (l .loop .k + 1) (r .rectangle .last .0)
+  more : r .rectangle .result ≡ true → Accumulated (arrived s) (l .loop .k + 1) (r .rectangle .last .0)
   more g =
-      let a = s .args in
       let t = r .before .before .before .before .before .loop-test .taken in
-      weighed-next (arrived s) (l .loop .k) (s .pre .0 .0) t (subst T (sym (sym answered ∙ g)) tt) (l .loop .inv .2) (s .pre .1 .0 .width-most)
-      (r .rectangle .ensures .1 .0 g
-      ∙ ap (λ xs. xs ++ drop (a .width) (l .loop .acc))
-      (same-part (a .t) (a .width) (a .arrival) (now (a .row)) (now (a .samples)) (now (a .sums)) (l .loop .k) (movedSum (arrived s)) (l .loop .inv .6) (l .loop .acc)))
+      accumulated-next (arrived s) (l .loop .k) (s .pre .0 .table) t (subst T (sym (sym answered ∙ g)) tt) (l .loop .inv .values)
+      (s .pre .0 .edges .width-most)
+      (r .rectangle .ensures .values g
+      ∙ ap (λ xs. xs ++ drop (s .args .width) (l .loop .acc))
+      (same-part (arrived s) (l .loop .k) (updatedSum (arrived s)) (l .loop .inv .updated) (l .loop .acc)))
 
--- src/rectangles.rt:141:5
 loop-holds : tie.Need-loop-holds Inv-loop μ-loop
-loop-holds c = let s = c .before .before .before .before .before in (
-  zero-le,
-  (λ j h. absurd (not-suc-le-zero h)),
-  s .pre .1 .1 .0,
-  refl,
-  blank-none (s .args .width),
-  length-replicate {A = ℕ} 1056 0,
-  rw zero-mul (grid-none (s .args .width) (movedSum (arrived s)) (now (s .args .sums))),
-  refl,
-)
+loop-holds c =
+    let s = c .before .before .before .before .before in
+    record {
+      count-most = zero-le;
+      good = λ j h. absurd (not-suc-le-zero h);
+      values = s .pre .1;
+      acc-long = refl;
+      padded = padded-none (s .args .width);
+      prefixes-long = length-replicate {A = ℕ} 1056 0;
+      updated = rw zero-mul (grid-none (s .args .width) (updatedSum (arrived s)) (now (s .args .sums)));
+      sums-long = refl;
+    }
 
--- src/rectangles.rt:144:13
 slice-aggregate-rectangle : tie.Need-slice-aggregate-rectangle Inv-loop μ-loop
-slice-aggregate-rectangle c = sym (c .before .before .before .loop .inv .4 .places)
+slice-aggregate-rectangle c = sym (c .before .before .before .loop .inv .padded .places)
 
--- src/rectangles.rt:145:13
 slice-aggregate-rectangle-2 : tie.Need-slice-aggregate-rectangle-2 Inv-loop μ-loop
-slice-aggregate-rectangle-2 c = sym (c .before .before .before .before .loop .inv .5)
+slice-aggregate-rectangle-2 c = sym (c .before .before .before .before .loop .inv .prefixes-long)
 
--- src/rectangles.rt:142:13
 rectangle-requires : tie.Need-rectangle-requires Inv-loop μ-loop
-rectangle-requires c κs = let l = c .before .before .before .before .before in
+rectangle-requires c κs =
+    let l = c .before .before .before .before .before in
     let s = l .before .before .before .before .before .before in
     let i = l .loop .inv in
-    let t = c .before .before .before .before .loop-test .taken in
-    let room = s .pre .1 .0 in (
-      (s .pre .0 .0, s .pre .0 .1, t),
-      (rw (i .7) room, ((le-trans (room .width-most) (i .2 .long), weighed-room (arrived s) (l .loop .k) (s .pre .0 .0) t (i .2)), (i .4, i .5, s .pre .1 .1 .1))),
+    let t = c .before .before .before .before .loop-test .taken in (
+      steps-still-fit (s .pre .0) (i .sums-long),
+      record {
+        few = t;
+        acc-long = le-trans (s .pre .0 .edges .width-most) (i .values .long);
+        value-least = accumulated-least (arrived s) (l .loop .k) (s .pre .0 .table) t (i .values);
+        value-most = accumulated-most (arrived s) (l .loop .k) (s .pre .0 .table) t (i .values);
+        padded = i .padded;
+        prefixes-long = i .prefixes-long;
+      },
     )
 
--- src/rectangles.rt:156:13
 same-length : tie.Need-same-length Inv-loop μ-loop
-same-length c = c .before .before .before .before .before .before .before .rectangle .kept .0 ∙ c .before .before .before .before .before .before .before .before .before .before .before .before .before .loop .inv .3
+same-length c =
+    let r = c .before .before .before .before .before .before .before in
+    r .rectangle .kept .0 ∙ l r .loop .inv .acc-long
 
--- src/rectangles.rt:156:13
 same-length-2 : tie.Need-same-length-2 Inv-loop μ-loop
-same-length-2 c = c .before .before .before .before .before .before .before .rectangle .kept .1 .1 .1 .1 .1 .1 .1 .1 .1 .1 .0 ∙ c .before .before .before .before .before .before .before .before .before .before .before .before .before .loop .inv .7
+same-length-2 c =
+    let r = c .before .before .before .before .before .before .before in
+    r .rectangle .kept .1 .1 .1 .1 .1 .1 .1 .1 .1 .1 .0 ∙ l r .loop .inv .sums-long
 
--- src/rectangles.rt:156:13
 returns : tie.Need-returns Inv-loop μ-loop
-returns c = let r = c .before .before .before .before .before .before .before in
-    let t = r .before .before .before .before .before .loop-test .taken in (
-      sym (first-at (s r .args .t .count) (passes (arrived (s r))) (l r .loop .k) t (l r .loop .inv .1) (no (answered r) (c .if1 .taken))),
-      ((λ h. absurd (omega arith)), ((λ h. absurd (omega arith)), λ _. moved r)),
-    )
+returns c =
+    let r = c .before .before .before .before .before .before .before in
+    let t = r .before .before .before .before .before .loop-test .taken in
+    record {
+      first = sym (first-at (s r .args .t .count) (passes (arrived (s r))) (l r .loop .k) t (l r .loop .inv .good) (no (answered r) (c .if1 .taken)));
+      values = λ h. absurd (omega arith);
+      accepted = λ h. absurd (omega arith);
+      refused = λ h. updated r;
+    }
 
--- src/rectangles.rt:158:9
 add-k : tie.Need-add-k Inv-loop μ-loop
 add-k c = let r = c .before .before .before .before .before .before .before in
-    let f = granted (s r .args .t) (s r .pre .0 .0) .few in
+    let f = granted (s r .args .t) (s r .pre .0 .table) .few in
     let t = r .before .before .before .before .before .loop-test .taken in
     search (needs, f, t)
 
--- src/rectangles.rt:141:5
 loop-less : tie.Need-loop-less Inv-loop μ-loop
 loop-less c = search needs
 
--- src/rectangles.rt:141:5
 loop-again : tie.Need-loop-again Inv-loop μ-loop
-loop-again c = let r = c .before .before .before .before .before .before .before in
+loop-again c =
+    let r = c .before .before .before .before .before .before .before in
     let t = r .before .before .before .before .before .loop-test .taken in
     let i = l r .loop .inv in
-    let g = not-false _ (c .if1 .left) in (
-      omega arith,
-      up-to (l r .loop .k) (i .1) (subst T (sym (sym (answered r) ∙ g)) tt),
-      more r g,
-      r .rectangle .kept .0 ∙ i .3,
-      r .rectangle .ensures .1 .1 .1,
-      r .rectangle .kept .1 .1 .0 ∙ i .5,
-      moved r,
-      r .rectangle .kept .1 .1 .1 .1 .1 .1 .1 .1 .1 .1 .0 ∙ i .7,
-    )
+    let g = not-false _ (c .if1 .left) in
+    record {
+      count-most = omega arith;
+      good = up-to (l r .loop .k) (i .good) (subst T (sym (sym (answered r) ∙ g)) tt);
+      values = more r g;
+      acc-long = r .rectangle .kept .0 ∙ i .acc-long;
+      padded = r .rectangle .ensures .padded;
+      prefixes-long = r .rectangle .kept .1 .1 .0 ∙ i .prefixes-long;
+      updated = updated r;
+      sums-long = r .rectangle .kept .1 .1 .1 .1 .1 .1 .1 .1 .1 .1 .0 ∙ i .sums-long;
+    }
 
--- src/rectangles.rt:117:1
 same-length-3 : tie.Need-same-length-3 Inv-loop μ-loop
 same-length-3 c = search needs
 
--- src/rectangles.rt:117:1
 same-length-4 : tie.Need-same-length-4 Inv-loop μ-loop
 same-length-4 c = search needs
 
--- src/rectangles.rt:117:1
 returns-2 : tie.Need-returns-2 Inv-loop μ-loop
-returns-2 c = let l = c .before in
+returns-2 c =
+    let l = c .before in
     let s = l .before .before .before .before .before .before in
     let a = s .args in
     let h = l .loop .inv in
     let e : l .loop .k ≡ a .t .count = omega arith in
-    let good : (j : ℕ) → j < a .t .count → T (passes (arrived s) j) = λ j p. h .1 j (omega arith) in (
-      e ∙ sym (first-none (a .t .count) (passes (arrived s)) good),
-      (
-        (λ _. subst (λ n. Weighed (arrived s) n (l .loop .acc)) e (h .2)),
-        (
-          (λ _. h .6 ∙ ap (λ k. grid k (a .width) (movedSum (arrived s)) ++ drop (k * a .width) (now (a .sums))) e ∙ all-moved (arrived s) (s .pre .0 .0) good),
-          λ p. absurd (omega arith),
-        ),
-      ),
-    )
+    let good : (j : ℕ) → j < a .t .count → T (passes (arrived s) j) = λ j p. h .good j (omega arith) in
+    record {
+      first = e ∙ sym (first-none (a .t .count) (passes (arrived s)) good);
+      values = λ h′. subst (λ n. Accumulated (arrived s) n (l .loop .acc)) e (h .values);
+      accepted =
+          λ h′. h .updated ∙ ap (λ k. grid k (a .width) (updatedSum (arrived s)) ++ drop (k * a .width) (now (a .sums))) e
+          ∙ all-updated (arrived s) (s .pre .0 .table) good;
+      refused = λ p. absurd (omega arith);
+    }
 
 pub values-spec : {M : Type 1} → statement M
 values-spec =

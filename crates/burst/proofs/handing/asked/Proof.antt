@@ -1,7 +1,7 @@
 -- Questions 14, 15, 21 and 13 in order; after 14 the width is not 0.
 use Rattle.scan.proofs.States.{agreed}
 use Rattle.scan.specs.Calls.{agrees}
-use Rattle.arrival.proofs.Answered.{yes, no}
+use Rattle.arith.proofs.Bools.{yes, no}
 use Rattle.rule.proofs.Asked.{width-bounds}
 use Rattle.burst.specs.Bursts.{burstAsks}
 use borrow.Author.Tests.{le-leb, lt-leb, eq-eqb, ne-eqb}

@@ -1,100 +1,63 @@
+-- `pgm::decode_words` writes n samples into the output, and each sample is two bytes, the high one first: a pass over it.
+-- Assumes nothing.
 use denote.Ref.{now}
-use Prim.Native.Nat.{ℕ, suc, _+_, _-_, _*_, _≤_, _<_}
+use Prim.Native.Nat.{ℕ, _+_, _-_, _*_, _≤_}
 use native.Mathlib.Omega.{arith}
-use native.Mathlib.Numerals.{add-one}
-use mathlib.Core.Path.{_≡_, refl, ap, _∙_}
-use mathlib.Core.List.{List, _++_}
-use lib.ListN.{length, getD, drop, set, length-set}
-use Rattle.arith.specs.Tab.{tab}
-use Rattle.arith.proofs.Passes.{pass-none, pass-set}
+use mathlib.Core.List.{List}
+use lib.ListN.{length, getD}
 use borrow.Author.Needs.{needs}
+use Rattle.arith.proofs.Passes.{Pass, none-done, one-more, all-done}
 use Rattle.pgm.proofs.reading.decode_words.Statement.{statement}
 use Rattle.pgm.proofs.reading.decode_words.Tie as tie
-use Rattle.pgm.proofs.reading.decode_words.Reads as reads
-use Rattle.pgm.proofs.reading.decode_words.Lts as lts
-use Rattle.pgm.proofs.reading.joined.Reads as joined-reads
 
 -- the sample of two bytes
 abbrev two : List ℕ → ℕ → ℕ
 two bytes k = getD bytes (2 * k) 0 * 256 + getD bytes (2 * k + 1) 0
 
 abbrev Inv-loop : tie.InvT-loop
-Inv-loop bytes n out₀ k₀ out k =
-    (k ≤ n) × (out ≡ tab k (two bytes) ++ drop k out₀) × (length out ≡ length out₀) × (n ≤ length out₀) × (2 * n ≤ length bytes)
+Inv-loop bytes n out₀ k₀ out k = Pass n (two bytes) out₀ k out × (2 * n ≤ length bytes)
 
 abbrev μ-loop : tie.MeasureT-loop
 μ-loop bytes n out₀ k₀ out k = n - k
 
--- src/reading.rt:40:5
 loop-holds : tie.Need-loop-holds Inv-loop μ-loop
-loop-holds c =
-    let s = c .before .before in
-    let a = s .args in
-    (search needs, pass-none (two (now (a .bytes))) (now (a .out)), refl, s .pre .1, s .pre .0)
+loop-holds c = let s = c .before .before in (none-done _ _ (now (s .args .out)) (s .pre .1), s .pre .0)
 
--- src/reading.rt:41:17
 mul-p : tie.Need-mul-p Inv-loop μ-loop
 mul-p c = search needs
 
--- src/reading.rt:42:17
 add-q : tie.Need-add-q Inv-loop μ-loop
 add-q c = search needs
 
--- src/reading.rt:43:25
 shared-slice-read-joined : tie.Need-shared-slice-read-joined Inv-loop μ-loop
 shared-slice-read-joined c = search needs
 
--- src/reading.rt:43:35
 shared-slice-read-joined-2 : tie.Need-shared-slice-read-joined-2 Inv-loop μ-loop
 shared-slice-read-joined-2 c = search needs
 
--- src/reading.rt:43:18
 joined-requires : tie.Need-joined-requires Inv-loop μ-loop
 joined-requires c κs = search needs
 
--- src/reading.rt:43:9
 mul-out : tie.Need-mul-out Inv-loop μ-loop
 mul-out c = search needs
 
--- src/reading.rt:43:9
 slice-write-out : tie.Need-slice-write-out Inv-loop μ-loop
 slice-write-out c = search needs
 
--- src/reading.rt:44:9
 add-k : tie.Need-add-k Inv-loop μ-loop
 add-k c = search needs
 
--- src/reading.rt:40:5
 loop-less : tie.Need-loop-less Inv-loop μ-loop
 loop-less c = omega arith
 
--- src/reading.rt:40:5
 loop-again : tie.Need-loop-again Inv-loop μ-loop
-loop-again c =
-    let l = c .before .before .before .before in
-    let a = l .before .before .before .args in
-    let i = l .loop .inv in
-    let n = l .loop .k in
-    let f = two (now (a .bytes)) in (
-      search needs,
-      rw (add-one n, c .joined .ensures) (ap (λ out. set out n (f n)) (i .1) ∙ pass-set n f (now (a .out)) 0 (omega arith)),
-      length-set (l .loop .out) n _ ∙ i .2,
-      i .3,
-      i .4,
-    )
+loop-again c = let l = c .before .before .before .before in (one-more (l .loop .inv .0) (c .before .before .before .loop-test .taken) (c .joined .ensures), l .loop .inv .1)
 
--- src/reading.rt:35:1
 same-length : tie.Need-same-length Inv-loop μ-loop
-same-length c = c .before .loop .inv .2
+same-length c = c .before .loop .inv .0 .long
 
--- src/reading.rt:35:1
 returns : tie.Need-returns Inv-loop μ-loop
-returns c =
-    let l = c .before in
-    let a = l .before .before .before .args in
-    let i = l .loop .inv in
-    let e : l .loop .k ≡ a .n = omega arith in
-    i .1 ∙ ap (λ n. tab n (two (now (a .bytes))) ++ drop n (now (a .out))) e
+returns c = all-done (c .before .loop .inv .0) (c .loop-test .left)
 
 pub decode-words-spec : {M : Type 1} → statement M
 decode-words-spec =

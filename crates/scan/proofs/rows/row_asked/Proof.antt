@@ -17,7 +17,7 @@ use lib.Dec.{leb, ltb, eqb}
 use Prim.Native.Nat.{ℕ, _-_, _^_, _≤_, _<_}
 use mathlib.Core.Bool.{true, false, _&&_}
 use mathlib.Core.Path.{_≡_, refl, sym, ap, _∙_}
-use Rattle.arrival.proofs.Answered.{yes, no}
+use Rattle.arith.proofs.Bools.{yes, no}
 use borrow.Author.Needs.{needs}
 use Rattle.scan.proofs.rows.row_asked.Statement.{statement}
 use Rattle.scan.proofs.rows.row_asked.Tie as tie

@@ -1,7 +1,7 @@
 -- Questions 14 and 15; no store is looked at, so the equation holds of any.
 use Rattle.scan.specs.Calls.{closeOf}
 use mathlib.Core.Path.{_≡_, refl, sym, ap, _∙_}
-use Rattle.arrival.proofs.Answered.{yes, no}
+use Rattle.arith.proofs.Bools.{yes, no}
 use borrow.Author.Needs.{needs}
 use Rattle.scan.proofs.starts.close.Statement.{statement}
 use Rattle.scan.proofs.starts.close.Tie as tie

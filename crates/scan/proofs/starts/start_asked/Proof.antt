@@ -1,7 +1,7 @@
 -- Questions 11, 12 and 13 in order.
 use Rattle.scan.specs.Calls.{startAsks}
 use mathlib.Core.Path.{_≡_, refl, sym, ap, _∙_}
-use Rattle.arrival.proofs.Answered.{yes, no}
+use Rattle.arith.proofs.Bools.{yes, no}
 use borrow.Author.Needs.{needs}
 use Rattle.scan.proofs.starts.start_asked.Statement.{statement}
 use Rattle.scan.proofs.starts.start_asked.Tie as tie

@@ -1,26 +1,21 @@
+-- `scan::wipe` writes zeros into the first n samples: a pass over them.
+-- Assumes nothing.
 use denote.Ref.{now}
-use Prim.Native.Nat.{_-_, _≤_}
-use native.Mathlib.Omega.{arith}
-use native.Mathlib.Numerals.{add-one}
-use mathlib.Core.Path.{_≡_, refl, ap, _∙_}
-use mathlib.Core.List.{_++_}
-use lib.ListN.{length, drop, set, length-set}
-use Rattle.arith.specs.Tab.{tab}
-use Rattle.arith.proofs.Passes.{pass-none, pass-set}
+use Prim.Native.Nat.{_-_}
+use mathlib.Core.Path.{refl}
 use borrow.Author.Needs.{needs}
+use Rattle.arith.proofs.Passes.{Pass, none-done, one-more, all-done}
 use Rattle.scan.proofs.starts.wipe.Statement.{statement}
 use Rattle.scan.proofs.starts.wipe.Tie as tie
 
 abbrev Inv-loop : tie.InvT-loop
-Inv-loop to₀ n c₀ to c =
-    (c ≤ n) × (to ≡ tab c (λ k. 0) ++ drop c to₀) × (length to ≡ length to₀) × (n ≤ length to₀)
+Inv-loop to₀ n c₀ to c = Pass n (λ k. 0) to₀ c to
 
 abbrev μ-loop : tie.MeasureT-loop
 μ-loop to₀ n c₀ to c = n - c
 
 loop-holds : tie.Need-loop-holds Inv-loop μ-loop
-loop-holds c =
-    (search needs, pass-none (λ k. 0) (now (c .args .to)), refl, c .pre)
+loop-holds c = none-done _ _ (now (c .args .to)) (c .pre)
 
 mul-to : tie.Need-mul-to Inv-loop μ-loop
 mul-to c = search needs
@@ -35,26 +30,13 @@ loop-less : tie.Need-loop-less Inv-loop μ-loop
 loop-less c = search needs
 
 loop-again : tie.Need-loop-again Inv-loop μ-loop
-loop-again c =
-    let l = c .before in
-    let i = l .loop .inv in
-    let n = l .loop .c in (
-      search needs,
-      rw add-one (ap (λ to. set to n 0) (i .1) ∙ pass-set n (λ k. 0) (now (l .before .args .to)) 0 (omega arith)),
-      length-set (l .loop .to) n 0 ∙ i .2,
-      i .3,
-    )
+loop-again c = one-more (c .before .loop .inv) (c .loop-test .taken) refl
 
 same-length : tie.Need-same-length Inv-loop μ-loop
-same-length c = c .before .loop .inv .2
+same-length c = search needs
 
 returns : tie.Need-returns Inv-loop μ-loop
-returns c =
-    let l = c .before in
-    let a = l .before .args in
-    let i = l .loop .inv in
-    let e : l .loop .c ≡ a .n = omega arith in
-    i .1 ∙ ap (λ n. tab n (λ k. 0) ++ drop n (now (a .to))) e
+returns c = all-done (c .before .loop .inv) (c .loop-test .left)
 
 pub wipe-spec : {M : Type 1} → statement M
 wipe-spec =

@@ -1,7 +1,7 @@
 -- The five tests of question 14 in order.
 use mathlib.Core.Path.{refl}
 use borrow.Author.Tests.{le-leb, lt-leb}
-use Rattle.arrival.proofs.Answered.{yes, no}
+use Rattle.arith.proofs.Bools.{yes, no}
 use Rattle.scan.specs.Calls.{agrees}
 use borrow.Author.Needs.{needs}
 use Rattle.scan.proofs.state.state_good.Statement.{statement}

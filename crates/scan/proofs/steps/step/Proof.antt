@@ -7,7 +7,7 @@ use lib.ListN.{length, take, replicate}
 use Rattle.scan.proofs.Rooms.{counts, arrives, zeros}
 use Rattle.scan.proofs.Lefts.{step-by, step-arrives}
 use Rattle.scan.proofs.States.{agreed}
-use Rattle.arrival.proofs.Answered.{yes, no}
+use Rattle.arith.proofs.Bools.{yes, no}
 use Rattle.arrival.specs.Arrivals.{Fits}
 use Rattle.scan.specs.Calls.{World, world, agrees, lentGood, closingOf}
 use Rattle.rule.proofs.Asked.{width-bounds}
