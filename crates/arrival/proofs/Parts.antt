@@ -139,7 +139,7 @@ line-part v k acc l = tab-cong (v .width) (λ c h. rw (line-scaled v k l c) refl
 
 -- ---- the values
 
-parts-le : (z : ℤ) → T (fitsSigned 16 z) → (posPart z ≤ 32768) × (negPart z ≤ 32768)
+pub parts-le : (z : ℤ) → T (fitsSigned 16 z) → (posPart z ≤ 32768) × (negPart z ≤ 32768)
 parts-le (pos n) t = let m = fits-mag 16 (pos n) t in (omega arith, zero-le)
 parts-le (negsuc n) t = let m = fits-mag 16 (negsuc n) t in (zero-le, omega arith)
 

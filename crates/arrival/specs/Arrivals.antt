@@ -54,9 +54,12 @@ entering v k c = cutAt v (rect (v .table) k .leadrow) c
 unfoldable pub stored : Arrival → (k c : ℕ) → ℕ
 stored v k c = getD (v .sums) (k * v .width + c) 0
 
--- the sum after the change: the leaving sample off, then the entering one on
+-- the two steps of the sum: the leaving sample off, then the entering one on
+abbrev pub lessSum : Arrival → (k c : ℕ) → ℕ
+lessSum v k c = stored v k c - leaving v k c
+
 unfoldable pub newSum : Arrival → (k c : ℕ) → ℕ
-newSum v k c = stored v k c - leaving v k c + entering v k c
+newSum v k c = lessSum v k c + entering v k c
 
 -- M·(2^(b - q1) - 1), the most that a column sum can be
 unfoldable pub sumMost : Table → Rect → ℕ
@@ -88,9 +91,12 @@ windowAt v k c =
 unfoldable pub scaledAt : Arrival → (k c : ℕ) → ℕ
 scaledAt v k c = windowAt v k c / 2 ^ v .table .q3 * 2 ^ (v .table .q1 + v .table .q2 + v .table .q3)
 
--- the filtered row's pixel of column c
+-- the value of column c, and the filtered row's pixel
+abbrev pub valueAt : Arrival → (c : ℕ) → ℤ
+valueAt v c = sumℤ (v .table .count) (λ k. rect (v .table) k .weight *ℤ pos (scaledAt v k c))
+
 unfoldable pub pixelAt : Arrival → (c : ℕ) → ℤ
-pixelAt v c = floorDiv (sumℤ (v .table .count) (λ k. rect (v .table) k .weight *ℤ pos (scaledAt v k c))) (v .table .t)
+pixelAt v c = floorDiv (valueAt v c) (v .table .t)
 
 -- ---- what an accepted arrival leaves
 

@@ -98,24 +98,22 @@ module _ (x : Image) (v : Arrival) (f : Finds x v) where
     trail-near : b .row .trail ≤ delayOf t + 16
     trail-near = let l = lead-near in let a = b .row .above in omega arith
 
-    before : ℤ
+    abbrev pub before : ℤ
     before = subℕ (v .number) (suc (delayOf t))
 
-    leaving-is : (c : ℕ) → c < v .width → leaving v k c ≡ x (covered before (d .trailrow) 0) (pos c) / 2 ^ t .q1
-    unfolding before
+    pub leaving-is : (c : ℕ) → c < v .width → leaving v k c ≡ x (covered before (d .trailrow) 0) (pos c) / 2 ^ t .q1
     leaving-is c l =
         cut-is (d .trailrow) (b .row .trail) (b .row .trail-is) trail-near c l
         ∙ ap (λ z. x z (pos c) / 2 ^ t .q1) (sym (leaving-row (v .number) (delayOf t) (d .trailrow)))
 
-    entering-is : (c : ℕ) → c < v .width → entering v k c ≡ x (covered before (d .trailrow) (rowsOf d)) (pos c) / 2 ^ t .q1
-    unfolding before
+    pub entering-is : (c : ℕ) → c < v .width → entering v k c ≡ x (covered before (d .trailrow) (rowsOf d)) (pos c) / 2 ^ t .q1
     entering-is c l =
         cut-is (d .leadrow) (b .row .lead) (b .row .lead-is) lead-near c l
         ∙ ap (λ z. x z (pos c) / 2 ^ t .q1) (sym (entering-row (v .number) (delayOf t) d b))
 
     -- the leaving sample is in the stored sum
     leaving-in : (c : ℕ) → c < v .width → leaving v k c ≤ stored v k c
-    unfolding before columnSum
+    unfolding columnSum
     leaving-in c l =
         let e = leaving-is c l in
         let s = f .sums k c lk l in
@@ -125,7 +123,7 @@ module _ (x : Image) (v : Arrival) (f : Finds x v) where
 
     -- the new sum is the column sum of the row that is due
     pub new-is : (c : ℕ) → c < v .width → newSum v k c ≡ columnSum t x d (subℕ (v .number) (delayOf t)) (pos c)
-    unfolding newSum before
+    unfolding newSum
     new-is c l =
         let a = leaving-is c l in
         let e = entering-is c l in

@@ -10,3 +10,4 @@ pub mod Wholes
 pub mod Numbers
 pub mod Packs
 pub mod Around
+pub mod Words

@@ -30,8 +30,8 @@ use Rattle.burst.specs.Bursts.{progress, feed, allRows, noRows, burstAsks, burs
 use Rattle.run.specs.Rows.{scanned, goodRows}
 use Rattle.run.specs.Holds.{Starts, Stores}
 use Rattle.run.specs.Sequences.{Call, rowCall, rowsCall, closeCall, stepCall, engine, Machine, machine, dueLeft, machineAsks, withRow, machineRow, machineRows, machineClose, machineStep, answers, started}
-use Rattle.run.proofs.Arrives.{Lies}
-use Rattle.run.proofs.Stores.{all-good, stores-next, output-due}
+use Rattle.run.proofs.Arrives.{Lies, Finds}
+use Rattle.run.proofs.Stores.{finds, all-good, stores-next, output-due}
 use Rattle.run.proofs.Rows.{rows-lie, below, good-append, good-one, more-agrees, more-above, last-row}
 use Rattle.run.proofs.Starts.{stores-none, stores-agree}
 use Rattle.run.proofs.Alike.{Matches, feed-alike, left-alike}
@@ -180,6 +180,9 @@ module _ (m : Machine) (samples sums : List ℕ) (f : Fair m) (st : Holds m samp
         (more-above (m .width) (m .table .b) (m .rows) (row ∷ []) (f .good))
         (λ e j p. more-agrees (m .width) (m .table .b) (m .rows) (row ∷ []) (f .good) e j (let z = known .unstepped in omega arith)) st
 
+    pub row-finds : Finds x′ (arrivalOf here row)
+    row-finds = finds (m .table) (m .width) x′ (length (m .rows) + m .steps) row samples sums (f .table) lies′ is′ found′
+
     taken : Agree (takenIn here (rowIn (stateOf m)) (arrivalOf here row) out) (dueLeft (m .table) (m .width) x′ (length (m .rows)) out (withRow m row))
     taken =
         let k = known in
@@ -223,6 +226,9 @@ module _ (m : Machine) (samples sums : List ℕ) (f : Fair m) (st : Holds m samp
 
     step-never : all (m .table .count) (λ k. all (m .width) (sumGood (closingOf here) k)) ≡ true
     step-never = says x zeros out lies is st
+
+    pub step-finds : Finds x (closingOf here)
+    step-finds = finds (m .table) (m .width) x (length (m .rows) + m .steps) zeros samples sums (f .table) lies is st
 
     stepped : Agree (takenIn here (stepIn (stateOf m)) (closingOf here) out)
         (dueLeft (m .table) (m .width) x (length (m .rows) + m .steps) out (machine (m .table) (m .width) (m .rows) (m .steps + 1) (m .closed)))
