@@ -20,6 +20,7 @@ use Rattle.rule.specs.Sums.{covered}
 use Rattle.layout.proofs.Questions.{AllYes}
 use Rattle.rule.proofs.Fitting.{value-fits}
 use Rattle.arrival.specs.Arrivals.{Arrival, newSum, sumGood, arrivalAsks, lineAt, windowAt, scaledAt, pixelAt}
+use Rattle.arrival.specs.Rectangles.{sumLimit}
 use Rattle.arrival.proofs.Carries.{good-at, most-le}
 use Rattle.arrival.proofs.Values.{line-most, scaled-most}
 
@@ -43,9 +44,9 @@ module _ (v : Arrival) (a : acceptable (v .table) ≡ true) (y : AllYes (arrival
       let m = most-le t k a h in
       let n = good-at v k (good k h) c i .1 in
       let w =
-      sum-bound (colsOf d) 126945 {f = λ j. lineAt v k (covered (pos c) (d .trailcol) j) / 2 ^ t .q2}
+      sum-bound (colsOf d) sumLimit {f = λ j. lineAt v k (covered (pos c) (d .trailcol) j) / 2 ^ t .q2}
       (λ j l. le-trans (div-le-self _ (2 ^ t .q2)) (le-trans (line-most v k (good k h) _) m)) in
-      let f = mul-le-mul (b .cols-most) (le-refl 126945) in
+      let f = mul-le-mul (b .cols-most) (le-refl sumLimit) in
       let o : 2 ^ t .b - 1 ≤ 4095 = let p = pow-mono (g .bits-most) in omega arith in
       let r = mul-le-mul (mul-le-mul (b .rows-most) (b .cols-most)) o in
       let z = scaled-most v k c q (good k h) in
