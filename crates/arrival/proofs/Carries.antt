@@ -30,10 +30,10 @@ use Rattle.arrival.specs.Arrivals.{Arrival, arriving, edgeRow, cutAt, le
 use Rattle.arrival.specs.Arrivals.{lineAt, windowAt, scaledAt, sumsAfter}
 use Rattle.passes.proofs.Steps.{step-exact, step-back}
 use Rattle.passes.specs.Passes.{stepped, plus}
-use Rattle.arrival.specs.Rectangles.{updatedSum, rolledBackSum, withPart}
+use Rattle.arrival.specs.Rectangles.{sumLimit, updatedSum, rolledBackSum, withPart}
 
 -- the most that a column sum of a table within the limits can be
-pub most-le : (t : Table) (k : ℕ) → acceptable t ≡ true → k < t .count → sumMost t (rect t k) ≤ 126945
+pub most-le : (t : Table) (k : ℕ) → acceptable t ≡ true → k < t .count → sumMost t (rect t k) ≤ sumLimit
 unfolding sumMost
 most-le t k e l =
     let g = granted t e in
@@ -99,7 +99,7 @@ module _ (v : Arrival) (k : ℕ) (f : ℕ → ℕ → ℕ) {now : List ℕ} (e :
   same-part acc = tab-cong (v .width) (λ c h. ap (plus (getD acc c 0) (posPart (d .weight)) (negPart (d .weight))) (same-scaled c))
 
 -- where question 19 holds, an updated sum is the one of the rule, and the updated sums are those that an accepted arrival leaves
-updated-exact : (v : Arrival) (k c : ℕ) → sumMost (v .table) (rect (v .table) k) ≤ 126945 → T (sumGood v k c) → updatedSum v k c ≡ newSum v k c
+updated-exact : (v : Arrival) (k c : ℕ) → sumMost (v .table) (rect (v .table) k) ≤ sumLimit → T (sumGood v k c) → updatedSum v k c ≡ newSum v k c
 unfolding sumGood newSum updatedSum
 updated-exact v k c m g = step-exact (stored v k c) (leaving v k c) (entering v k c) _ (omega arith) g
 

@@ -22,7 +22,7 @@ use Rattle.layout.specs.Measure.{rowsOf, colsOf}
 use Rattle.limits.proofs.Bounds.{Edges, extent}
 use Rattle.rule.proofs.Frame.{covered-frame}
 use Rattle.arrival.specs.Arrivals.{sumMost}
-use Rattle.passes.specs.Passes.{window, plus, scaledEnd}
+use Rattle.passes.specs.Passes.{boundMost, window, plus, scaledEnd}
 use Rattle.arrival.specs.Rectangles.{lineFrom, lineSum, withLine}
 
 -- one integer as two differences
@@ -72,7 +72,7 @@ most-le t d h l r =
     subst (λ x. x ≤ 126976) (sym (mul-assoc (rowsOf d) (2 ^ (t .b - t .q1) - 1) (2 ^ t .q1))) m
 
 -- a truncated column sum is within 2^17
-pub place-le : (t : Table) (d : Rect) → t .q1 < t .b → t .b ≤ 12 → rowsOf d ≤ 31 → sumMost t d / 2 ^ t .q2 ≤ 131072
+pub place-le : (t : Table) (d : Rect) → t .q1 < t .b → t .b ≤ 12 → rowsOf d ≤ 31 → sumMost t d / 2 ^ t .q2 ≤ boundMost
 place-le t d h l r =
     let m = most-le t d h l r in
     let p = le-mul-of-pos-right (sumMost t d) (pow-pos (t .q1)) in

@@ -24,6 +24,7 @@ use Rattle.layout.proofs.Questions.{AllYes}
 use Rattle.rule.proofs.Fitting.{value-fits}
 use Rattle.arrival.specs.Arrivals.{Arrival, lessSum, newSum, sumGood, arrivalAsks, lineAt, windowAt, scaledAt, valueAt, pixelAt}
 use Rattle.arrival.specs.Words.{WordsFit}
+use Rattle.arrival.specs.Rectangles.{sumLimit}
 use Rattle.arrival.proofs.Carries.{good-at, most-le}
 use Rattle.arrival.proofs.Values.{line-most, scaled-most}
 
@@ -60,9 +61,9 @@ module _ (v : Arrival) (a : acceptable (v .table) ≡ true) (y : AllYes (arrival
       let n = good-at v k (good k h) c i .1 in
       let e = less-le v k c in
       let w =
-      sum-bound (colsOf d) 126945 {f = λ j. lineAt v k (covered (pos c) (d .trailcol) j) / 2 ^ t .q2}
+      sum-bound (colsOf d) sumLimit {f = λ j. lineAt v k (covered (pos c) (d .trailcol) j) / 2 ^ t .q2}
       (λ j l. le-trans (div-le-self _ (2 ^ t .q2)) (le-trans (line-most v k (good k h) _) m)) in
-      let f = mul-le-mul (b .cols-most) (le-refl 126945) in
+      let f = mul-le-mul (b .cols-most) (le-refl sumLimit) in
       let z = scaled-small k c h in
       let few = g .few in
       let high = sum-bound (t .count) 137438953472 {f = λ k. posPart (rect t k .weight) * scaledAt v k c} (λ k l. part-small k c l _ (parts-le (rect t k .weight) (g .weight k l) .0)) in

@@ -23,6 +23,10 @@ use Rattle.ring.specs.Ring.{RingFits}
 use Rattle.passes.specs.Passes.{stepped, plus, bias, valueMost, partMost}
 use Rattle.arrival.specs.Arrivals.{Arrival, leaving, entering, stored, sumMost, sumGood, scaledAt, sumsAfter}
 
+-- 31 · (2^12 - 1), which no column sum of a table within the limits passes
+abbrev pub sumLimit : ℕ
+sumLimit = 126945
+
 -- rectangle k's stored sum for column c with both steps, and with both rolled back
 unfoldable pub updatedSum : Arrival → (k c : ℕ) → ℕ
 updatedSum v k c = stepped (stored v k c) (leaving v k c) (entering v k c)

@@ -10,7 +10,7 @@ ghost use Rattle.arith.specs.Tab.{tab, grid};
 ghost use Rattle.layout.specs.Contents.{rect};
 ghost use Rattle.limits.specs.Limits.{acceptable};
 ghost use Rattle.arrival.specs.Arrivals.{arriving, sumMost};
-ghost use Rattle.arrival.specs.Rectangles.{rolledBackSum, withLine, Accumulated, StepFits, RectangleFits, LineFits, Updated, AllUpdated};
+ghost use Rattle.arrival.specs.Rectangles.{sumLimit, rolledBackSum, withLine, Accumulated, StepFits, RectangleFits, LineFits, Updated, AllUpdated};
 use crate::edges::edge_row;
 use arith::biased_byte;
 use arith::power;
@@ -27,7 +27,7 @@ use passes::update_sums;
 fn sum_most(t: Table, k: usize) -> u32
     requires { ⌜ (acceptable t ≡ true) × (k < t .count) ⌝ }
     ensures { λ m. ⌜ m ≡ sumMost t (rect t k) ⌝ }
-    ensures { λ m. ⌜ m ≤ 126945 ⌝ }
+    ensures { λ m. ⌜ m ≤ sumLimit ⌝ }
 {
     let d = t.rects[k];
     rows(d) * (power(t.b - t.q1) as u32 - 1)

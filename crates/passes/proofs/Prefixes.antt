@@ -34,5 +34,5 @@ scaled-exact x h = mod-eq-of-lt (omega arith)
 -- a weight of at most 2^15 times it is at most 2^37
 pub part-le : (w x : ℕ) → w ≤ 32768 → x < scaledEnd → w * x ≤ partMost
 part-le w x h l =
-    let m : x ≤ 4194304 = omega arith in
+    let m : x ≤ scaledEnd = omega arith in
     mul-le-mul h m

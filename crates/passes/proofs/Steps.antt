@@ -11,11 +11,11 @@ use mir.Val.{Fits}
 use mir.Syntax.{w16, w32}
 use mir.Facts.{and-yes, yes-and, fits-widen}
 use Rattle.arith.proofs.Bools.{bool-eq}
-use Rattle.passes.specs.Passes.{movable, stepped}
+use Rattle.passes.specs.Passes.{boundMost, movable, stepped}
 
 -- both steps stay within the bound exactly when the sum may move
 module _
-    (stored off on less s bound : ℕ) (a : stored < 4294967296) (b : off < 65536) (c : on < 65536) (d : less < 4294967296) (e : bound ≤ 131071)
+    (stored off on less s bound : ℕ) (a : stored < 4294967296) (b : off < 65536) (c : on < 65536) (d : less < 4294967296) (e : bound ≤ boundMost)
     (f : (less + off) % 4294967296 ≡ stored) (g : s ≡ (less + on) % 4294967296) where
   pub step-good : (leb less bound && leb s bound) ≡ movable stored off on bound
   step-good =
@@ -42,7 +42,7 @@ step-sum stored off on less s f g =
     omega arith
 
 -- a sum that may move does not wrap
-pub step-exact : (stored off on bound : ℕ) → bound ≤ 131071 → T (movable stored off on bound) → stepped stored off on ≡ stored - off + on
+pub step-exact : (stored off on bound : ℕ) → bound ≤ boundMost → T (movable stored off on bound) → stepped stored off on ≡ stored - off + on
 step-exact stored off on bound e t =
     let h = and-yes (leb off stored) (leb (stored - off + on) bound) t in
     let x = leb→le off stored (h .0) in

@@ -11,7 +11,10 @@ use Rattle.arith.specs.Floor.{floorDiv}
 use Rattle.arith.specs.Sum.{sum}
 use Rattle.arith.specs.Twos.{fitsSigned}
 
--- ---- column sums
+-- ---- column sums: a bound is below 2^17, and so is a place of a line
+
+abbrev pub boundMost : ℕ
+boundMost = 131071
 
 -- a stored sum may move: the leaving sample is in it, and the result is within the bound
 abbrev pub movable : (stored off on bound : ℕ) → Bool
@@ -79,7 +82,7 @@ pub record UpdateFits (n bound q1 q2 line sums off on : ℕ) : Type 0 where
   pub off-long : n ≤ off
   pub on-long : n ≤ on
   pub few : n ≤ 1024
-  pub bound-most : bound ≤ 131071
+  pub bound-most : bound ≤ boundMost
   pub q1-most : q1 ≤ 11
   pub q2-most : q2 ≤ 8
 
@@ -93,7 +96,7 @@ pub record PrefixFits (n : ℕ) (line : List ℕ) (sums : ℕ) : Type 0 where
   pub few : n ≤ 1056
   pub line-long : n ≤ length line
   pub sums-long : n ≤ sums
-  pub small : (i : ℕ) → getD line i 0 ≤ 131072
+  pub small : (i : ℕ) → getD line i 0 ≤ boundMost
 
 pub record AccumulateFits (n q3 q above below : ℕ) (acc low high : List ℕ) : Type 0 where
   pub acc-long : n ≤ length acc

@@ -7,7 +7,7 @@ ghost use lib.Dec.{T, leb, eqb};
 ghost use lib.ListN.{length, drop};
 ghost use Rattle.arith.specs.Tab.{tab};
 ghost use Rattle.arith.specs.All.{all};
-ghost use Rattle.passes.specs.Passes.{movable, stepped, movableAt, steppedAt, newAt, UpdateFits, RollBackFits};
+ghost use Rattle.passes.specs.Passes.{boundMost, movable, stepped, movableAt, steppedAt, newAt, UpdateFits, RollBackFits};
 use std::num::wrapping_add_u32;
 use std::num::wrapping_sub_u32;
 
@@ -26,7 +26,7 @@ struct Change {
 
 // Both steps of a column sum. A store may hold any number, so they wrap; a step that does comes out past the bound.
 fn move_sum(stored: u32, off: u16, on: u16, bound: u32) -> Change
-    requires { ⌜ bound ≤ 131071 ⌝ }
+    requires { ⌜ bound ≤ boundMost ⌝ }
     ensures { λ m. ⌜ eqb (m .past) 0 ≡ movable stored off on bound ⌝ }
     ensures { λ m. ⌜ m .past ≤ 2 ⌝ }
     ensures { λ m. ⌜ m .sum ≡ stepped stored off on ⌝ }

@@ -1,6 +1,7 @@
 -- `arrival::sum_most` is the product of the definition, at most 31 · 4,095 by the limits of the table.
 -- Assumes nothing.
 use Rattle.arrival.specs.Arrivals.{sumMost}
+use Rattle.arrival.specs.Rectangles.{sumLimit}
 use Rattle.limits.proofs.Granted.{Granted, granted}
 use lib.Pow.{pow-pos, pow-mono}
 use mathlib.Core.Path.{_≡_, refl}
@@ -41,7 +42,7 @@ rows-most c =
     let m = table s .bounds (s .args .k) (s .pre .1) .rows-most in
     let e = c .before .rows .ensures .0 in omega arith
 
-most : (c : tie.After-power) → c .before .rows .result * (c .power .result - 1) ≤ 126945
+most : (c : tie.After-power) → c .before .rows .result * (c .power .result - 1) ≤ sumLimit
 most c =
     let h : c .power .result - 1 ≤ 4095 = let p = power-most c in omega arith in
     mul-le-mul (rows-most c) h

@@ -9,12 +9,12 @@ use borrow.Author.Needs.{needs}
 use Rattle.arith.specs.Sum.{sum}
 use Rattle.arith.proofs.Passes.{Pass, none-done, one-more, all-done}
 use Rattle.arith.proofs.Sums.{sum-suc}
-use Rattle.passes.specs.Passes.{prefix}
+use Rattle.passes.specs.Passes.{boundMost, prefix}
 use Rattle.passes.proofs.windows.prefix_sums.Statement.{statement}
 use Rattle.passes.proofs.windows.prefix_sums.Tie as tie
 
 abbrev Inv-loop : tie.InvT-loop
-Inv-loop sums₀ line n s₀ i₀ sums s i = Pass n (prefix line) sums₀ i sums × (s ≡ prefix line i) × (s ≤ i * 131072)
+Inv-loop sums₀ line n s₀ i₀ sums s i = Pass n (prefix line) sums₀ i sums × (s ≡ prefix line i) × (s ≤ i * boundMost)
 
 abbrev μ-loop : tie.MeasureT-loop
 μ-loop sums₀ line n s₀ i₀ sums s i = n - i
