@@ -11,7 +11,7 @@ use mir.Val.{SFits, toZ, ofZ}
 use mir.Facts.{toZ-ofZ, toZ-pos}
 use Rattle.arith.proofs.Ints.{diff-pos, diff-sub, diff-minus, diff-eq, diff-size}
 
-module _ (p n : ℕ) (hp : p < 4611686018427387904) (hn : n < 4611686018427387904) where
+module _ (p n : ℕ) (hp : p < 2 ^ 62) (hn : n < 2 ^ 62) where
   subtracted : toZ w64 p -ℤ toZ w64 n ≡ subℕ p n
   subtracted =
       rw (toZ-pos w64 {n = p} (lt-of-lt-of-le hp (lit≤ tt)), toZ-pos w64 {n = n} (lt-of-lt-of-le hn (lit≤ tt)))

@@ -38,11 +38,6 @@ floor-mono {y = pos a} {z = negsuc b} t h = absurd (h .le)
 floor-mono {y = negsuc a} {z = pos b} t h = record { le = tt }
 floor-mono {y = negsuc a} {z = negsuc b} t h = record { le = le→leb _ _ (shr-mono t (leb→le b a (h .le))) }
 
-pub floor-mag : (z : ℤ) (t : ℕ) → mag (floorDiv z t) ≤ mag z
-unfolding floorDiv
-floor-mag (pos n) t = div-le-self n (2 ^ t)
-floor-mag (negsuc n) t = div-le-self n (2 ^ t)
-
 -- where 2^s and 2^t are both above the size, the quotient is the same: 0 or -1
 pub floor-far : (z : ℤ) (s t : ℕ) → mag z < 2 ^ s → mag z < 2 ^ t → floorDiv z s ≡ floorDiv z t
 unfolding floorDiv

@@ -2,19 +2,11 @@
 -- Assumes nothing.
 use Prim.Native.Nat.{ℕ, _+_, _-_, _≤_, _<_}
 use native.Mathlib.Omega.{arith}
-use mathlib.Core.Path.{_≡_, sym, ap, _∙_}
-use mathlib.Core.List.{List, _++_, append-assoc}
+use mathlib.Core.Path.{_≡_, ap, _∙_}
+use mathlib.Core.List.{List, _++_}
 use lib.ListN.{length, getD, take, drop, length-append, List·getD-append}
-use lib.Seq.{getD-append-add, getD-take, getD-drop, drop-drop, length-take-le}
-use borrow.Rule.Slice.PartMut.{putMid}
+use lib.Seq.{getD-append-add, getD-take, getD-drop, length-take-le}
 use Rattle.arith.specs.Tab.{paste}
-
--- `&mut s[p..p + l]`, come back at ys
-pub part-back : {A : Type 0} (p l : ℕ) (xs ys : List A) → length ys ≡ l → putMid p (p + l - p) xs ys ≡ paste p ys xs
-unfolding paste
-part-back p l xs ys e =
-    let f : p + l - p ≡ l = omega arith in
-    rw (f, e, drop-drop l p xs) (sym (append-assoc (take p xs) ys (drop (p + l) xs)))
 
 -- before what is pasted, in it, and after it
 module _ (p : ℕ) (xs ys : List ℕ) (h : p + length xs ≤ length ys) where

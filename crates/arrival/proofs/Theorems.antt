@@ -23,6 +23,7 @@ use Rattle.rule.specs.Sums.{covered}
 use Rattle.layout.proofs.Questions.{AllYes}
 use Rattle.rule.proofs.Fitting.{value-fits}
 use Rattle.arrival.specs.Arrivals.{Arrival, lessSum, newSum, sumGood, arrivalAsks, lineAt, windowAt, scaledAt, valueAt, pixelAt}
+use Rattle.passes.specs.Passes.{partMost}
 use Rattle.arrival.specs.Words.{WordsFit}
 use Rattle.arrival.specs.Rectangles.{sumLimit}
 use Rattle.arrival.proofs.Carries.{good-at, most-le}
@@ -45,7 +46,7 @@ module _ (v : Arrival) (a : acceptable (v .table) ≡ true) (y : AllYes (arrival
       let z = scaled-most v k c q (good k h) in
       omega arith
 
-  part-small : (k c : ℕ) → k < v .table .count → (x : ℕ) → x ≤ 32768 → x * scaledAt v k c ≤ 137438953472
+  part-small : (k c : ℕ) → k < v .table .count → (x : ℕ) → x ≤ 32768 → x * scaledAt v k c ≤ partMost
   part-small k c h x l = let m = mul-le-mul l (scaled-small k c h) in omega arith
 
   -- S6, altered stores included
@@ -66,8 +67,8 @@ module _ (v : Arrival) (a : acceptable (v .table) ≡ true) (y : AllYes (arrival
       let f = mul-le-mul (b .cols-most) (le-refl sumLimit) in
       let z = scaled-small k c h in
       let few = g .few in
-      let high = sum-bound (t .count) 137438953472 {f = λ k. posPart (rect t k .weight) * scaledAt v k c} (λ k l. part-small k c l _ (parts-le (rect t k .weight) (g .weight k l) .0)) in
-      let low = sum-bound (t .count) 137438953472 {f = λ k. negPart (rect t k .weight) * scaledAt v k c} (λ k l. part-small k c l _ (parts-le (rect t k .weight) (g .weight k l) .1)) in
+      let high = sum-bound (t .count) partMost {f = λ k. posPart (rect t k .weight) * scaledAt v k c} (λ k l. part-small k c l _ (parts-le (rect t k .weight) (g .weight k l) .0)) in
+      let low = sum-bound (t .count) partMost {f = λ k. negPart (rect t k .weight) * scaledAt v k c} (λ k l. part-small k c l _ (parts-le (rect t k .weight) (g .weight k l) .1)) in
       let s = diff-sum (t .count) (λ k l. diff-scale (scaledAt v k c) (diff-parts (rect t k .weight))) in
       record {
         less = omega arith;

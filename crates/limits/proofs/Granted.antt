@@ -16,13 +16,10 @@ use Rattle.limits.proofs.Values.{acceptable-slots}
 use Rattle.limits.proofs.Bounds.{RectBounds, rect-bounds}
 
 pub record Granted (t : Table) : Type 0 where
-  pub bits-pos : 1 ≤ t .b
   pub bits-most : t .b ≤ 12
   pub q1-less : t .q1 < t .b
   pub q2-most : t .q2 ≤ 8
   pub q3-most : t .q3 ≤ 8
-  pub shift-most : t .t ≤ 31
-  pub word-least : 8 ≤ t .w
   pub word-most : t .w ≤ 32
   pub some : 1 ≤ t .count
   pub few : t .count ≤ 16
@@ -48,13 +45,10 @@ granted t e =
     let slot : (k : ℕ) → k < t .count → T (rectGood (rect t k)) × T (fitsSigned 16 (rect t k .weight)) =
     λ k l. and-yes (rectGood (rect t k)) (fitsSigned 16 (rect t k .weight)) (all-at (t .count) (slotGood t) (g .0) k l) in
     record {
-      bits-pos = leb→le _ _ (a1 .0);
       bits-most = leb→le _ _ (a1 .1);
       q1-less = ltb→lt _ _ (b1 .0);
       q2-most = leb→le _ _ (b2 .0);
       q3-most = leb→le _ _ (b2 .1);
-      shift-most = leb→le _ _ (c1 .0);
-      word-least = leb→le _ _ (c2 .0);
       word-most = leb→le _ _ (c2 .1);
       some = leb→le _ _ (d .0);
       few = leb→le _ _ (f .0);

@@ -24,7 +24,7 @@ fn scaled_sum(t: Table, d: Rect, width: usize, samples: &[u16], r: usize, c: usi
     requires { ⌜ (t .b ≤ 12) × (t .q1 ≤ 11) × (t .q2 ≤ 8) × (t .q3 ≤ 8) × (rowsOf d ≤ 31) × (colsOf d ≤ 31) ⌝ }
     requires { ⌜ HasBits (t .b) (sampleAt width (now samples)) ⌝ }
     ensures { λ s. ⌜ s ≡ scaledSum t (sampleAt width (now (samples .entry))) d (pos r) (pos c) ⌝ }
-    ensures { λ s. ⌜ s < 4194304 ⌝ }
+    ensures { λ s. ⌜ s < 2 ^ 22 ⌝ }
 {
     let cut = window_sum(t, d, width, samples, r, c) >> t.q3;
     cut as u64 * power(t.q1 + t.q2 + t.q3)
@@ -32,7 +32,7 @@ fn scaled_sum(t: Table, d: Rect, width: usize, samples: &[u16], r: usize, c: usi
 
 // above - below, divided by 2^shift and rounded down.
 fn round_pixel(above: u64, below: u64, shift: u8) -> i32
-    requires { ⌜ (above < 4611686018427387904) × (below < 4611686018427387904) ⌝ }
+    requires { ⌜ (above < 2 ^ 62) × (below < 2 ^ 62) ⌝ }
     requires { ⌜ T (fitsSigned 32 (floorDiv (subℕ above below) shift)) ⌝ }
     ensures { λ p. ⌜ p ≡ floorDiv (subℕ above below) shift ⌝ }
 {

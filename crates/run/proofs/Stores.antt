@@ -77,11 +77,7 @@ module _ (t : Table) (l : ℕ) (x : Image) (a : ℕ) (row samples sums : List �
           carried = λ k c lk lc. sums-next x v finds k c lk lc;
         }
 
-    -- the output while waiting, and when a row is due
-    pub output-waits : a < delayOf t → (out : List ℤ) → outputAfter v out ≡ out
-    unfolding outputAfter
-    output-waits h out = rw (lt-ltb a (delayOf t) h) refl
-
+    -- the output when a row is due
     pub output-due : delayOf t ≤ a → (out : List ℤ) → outputAfter v out ≡ tab l (λ c. pixelOf t x (pos (a - delayOf t)) (pos c)) ++ drop l out
     unfolding outputAfter
     output-due h out =

@@ -9,7 +9,7 @@ use lib.ListN.{length}
 use borrow.Author.Needs.{needs}
 use Rattle.arith.proofs.Parts.{part, part-length}
 use Rattle.arith.proofs.Passes.{pass-whole}
-use Rattle.arith.proofs.Pastes.{part-back}
+use Rattle.arith.proofs.Parts.{part-back}
 use Rattle.arith.proofs.Tabs.{tab-getD}
 use Rattle.ring.proofs.Kept.{place-end}
 use Rattle.ring.proofs.keep.Statement.{statement}

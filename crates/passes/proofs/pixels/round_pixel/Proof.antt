@@ -8,13 +8,13 @@ use mir.Syntax.{w64}
 use lib.Dec.{lit<}
 use mathlib.Core.Path.{_≡_, _∙_}
 use native.Mathlib.Omega.{arith}
-use Prim.Native.Nat.{_<_}
+use Prim.Native.Nat.{_^_, _<_}
 use borrow.Author.Needs.{needs}
 use Rattle.passes.specs.Passes.{bias, rounded}
 use Rattle.passes.proofs.pixels.round_pixel.Statement.{statement}
 use Rattle.passes.proofs.pixels.round_pixel.Tie as tie
 
-low : (c : tie.Start) → c .args .value < 4611686018427387904
+low : (c : tie.Start) → c .args .value < 2 ^ 62
 low c = let l = c .pre .value-most in omega arith
 
 -- what the shift answers is the quotient

@@ -26,7 +26,7 @@ scaled c =
 
 small :
     (c : tie.After-power)
-    → scaledSum (start c .args .t) (sampleAt (start c .args .width) (start c .args .samples .now)) (start c .args .d) (pos (start c .args .r)) (pos (start c .args .c)) < 4194304
+    → scaledSum (start c .args .t) (sampleAt (start c .args .width) (start c .args .samples .now)) (start c .args .d) (pos (start c .args .r)) (pos (start c .args .c)) < 2 ^ 22
 small c =
     let a = start c .args in
     let p = start c .pre .1 .0 in

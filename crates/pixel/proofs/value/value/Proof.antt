@@ -21,7 +21,7 @@ use mathlib.Core.List.{List}
 use native.Mathlib.Numerals.{add-one}
 use native.Mathlib.Omega.{arith}
 use native.Mathlib.Nat.{mul-le-mul}
-use Prim.Native.Nat.{ℕ, _+_, _-_, _*_, _≤_, _<_}
+use Prim.Native.Nat.{ℕ, _+_, _-_, _*_, _^_, _≤_, _<_}
 use borrow.Author.Needs.{needs}
 use Rattle.pixel.proofs.value.value.Statement.{statement}
 use Rattle.pixel.proofs.value.value.Tie as tie
@@ -36,13 +36,13 @@ highs t width samples r c k = posPart (rect t k .weight) * sums t width samples 
 abbrev lows : Table → (width : ℕ) → List ℕ → (r c k : ℕ) → ℕ
 lows t width samples r c k = negPart (rect t k .weight) * sums t width samples r c k
 
-product : (a b : ℕ) → a ≤ 32768 → b < 4194304 → a * b ≤ 137438953472
-product a b h l = let m : b ≤ 4194304 = omega arith in mul-le-mul h m
+product : (a b : ℕ) → a ≤ 32768 → b < 2 ^ 22 → a * b ≤ 2 ^ 37
+product a b h l = let m : b ≤ 2 ^ 22 = omega arith in mul-le-mul h m
 
 abbrev Inv-loop : tie.InvT-loop
 Inv-loop width samples r c t count above₀ below₀ k₀ above below k =
     (k ≤ count) × (above ≡ sum k (highs t width samples r c)) × (below ≡ sum k (lows t width samples r c))
-    × (above ≤ k * 137438953472) × (below ≤ k * 137438953472)
+    × (above ≤ k * 2 ^ 37) × (below ≤ k * 2 ^ 37)
 
 abbrev μ-loop : tie.MeasureT-loop
 μ-loop width samples r c t count above₀ below₀ k₀ above below k = count - k
