@@ -4,4 +4,5 @@ mod putting;
 
 pub use putting::put_bytes;
 pub use putting::put_cell;
+pub use putting::put_number;
 pub use putting::put_signed;
