@@ -3,13 +3,12 @@
 use Prim.Native.Nat.{ℕ}
 use Prim.Native.String.{String}
 use mathlib.Core.List.{List, [], _∷_}
-use lib.ListN.{getD}
-use Rattle.text.specs.Ascii.{ascii}
+use Rattle.text.specs.Ascii.{line, lines}
 
--- the sentences in the order of their numbers, from 0 on; 0 is no refusal
+-- the sentences in the order of their numbers, from 0 on; 0, which is no refusal, has an empty one
 unfoldable pub sentences : List String
 sentences =
-    "accepted"
+    ""
     ∷ "the file does not begin with the header 01 00 06"
     ∷ "a field is cut off"
     ∷ "b is not from 1 to 12"
@@ -33,6 +32,6 @@ sentences =
     ∷ "samples handed over together are no whole rows"
     ∷ []
 
--- the words for a number; a number that no call gives has its own
+-- the words for a number; none for a number that no call gives
 unfoldable pub refusalText : (number : ℕ) → List ℕ
-refusalText number = ascii (getD sentences number "there is no such refusal")
+refusalText number = line number (lines sentences)

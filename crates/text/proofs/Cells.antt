@@ -72,6 +72,11 @@ spell-length (suc places) n = go (ltb n 10) (spell-length places (n / 10))
     go true h = omega arith
     go false h = let l = length-append (spell places (n / 10)) ((48 + n % 10) ∷ []) in omega arith
 
+-- a number takes at most 20 bytes
+pub number-length : (n : ℕ) → length (decimal n) ≤ 20
+unfolding decimal
+number-length n = spell-length 20 n
+
 -- a number and the byte after it take at most 21 bytes, an integer and the byte after it at most 22
 pub cell-length : (n end : ℕ) → length (cell n end) ≤ 21
 unfolding cell decimal

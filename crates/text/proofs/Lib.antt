@@ -1,2 +1,4 @@
 pub mod Puts
 pub mod Cells
+pub mod Feeds
+pub mod Pieces
