@@ -2,3 +2,4 @@ pub mod Puts
 pub mod Cells
 pub mod Feeds
 pub mod Pieces
+pub mod Widths

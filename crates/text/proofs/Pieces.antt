@@ -6,13 +6,14 @@ use mathlib.Core.Path.{_≡_, refl, sym, ap, ap₂, _∙_}
 use mathlib.Core.Bool.{Bool, true, false, cond}
 use mathlib.Core.List.{List, [], _∷_, _++_, append-assoc, append-nil}
 use lib.Dec.{eqb}
-use lib.ListN.{length, getD, take, drop}
+use lib.ListN.{length, getD, take, drop, length-append}
 use lib.Seq.{take-suc}
 use native.Mathlib.Numerals.{add-one}
 use borrow.Author.Tests.{le-leb, lt-leb}
 use Rattle.text.specs.Text.{Put, decimal}
 use Rattle.text.specs.Ascii.{piece, filled, fillCount, fillOut}
 use Rattle.text.proofs.Puts.{put-then, put-start}
+use Rattle.text.proofs.Cells.{number-length}
 
 -- the number that the next # after a text stands for
 unfoldable pub upTo : List ℕ → (k : ℕ) → ℕ
@@ -58,7 +59,35 @@ pub piece-byte : (b n : ℕ) → eqb b 35 ≡ false → piece b n ≡ b ∷ []
 unfolding piece
 piece-byte b n e = rw e refl
 
+piece-bound : (t : Bool) (b n : ℕ) → length (cond t (decimal n) (b ∷ [])) ≤ 20
+piece-bound true b n = number-length n
+piece-bound false b n = omega arith
+
+pub piece-length : (b n : ℕ) → length (piece b n) ≤ 20
+unfolding piece
+piece-length b n = piece-bound (eqb b 35) b n
+
+pub filled-length : (text ns : List ℕ) (k : ℕ) → length (filled text ns k) ≤ 20 * length text
+unfolding filled
+filled-length [] ns k = omega arith
+filled-length (b ∷ text) ns k =
+    let l = length-append (piece b (getD ns k 0)) (filled text ns (cond (eqb b 35) (suc k) k)) in
+    let p = piece-length b (getD ns k 0) in
+    let h = filled-length text ns (cond (eqb b 35) (suc k) k) in
+    omega arith
+
 -- ---- with and without room
+
+-- what a call put, where there is room
+pub fill-said : (o o1 text ns : List ℕ) (n : ℕ) → n ≡ fillCount o text ns → o1 ≡ fillOut o text ns → 20 * length text ≤ length o
+    → Put o 0 (filled text ns 0) o1 n
+unfolding fillCount fillOut
+fill-said o o1 text ns n e f h =
+    let l = filled-length text ns 0 in
+    let y = le-leb (20 * length text) (length o) h in
+    let z : 0 + length (filled text ns 0) ≡ length (filled text ns 0) = omega arith in
+    let m = rw y at e in
+    record { now = (rw y at f) ∙ ap (λ k. filled text ns 0 ++ drop k o) (sym z); next-is = omega arith; room = omega arith }
 
 pub fill-none : (o text ns : List ℕ) → length o < 20 * length text → (0 ≡ fillCount o text ns) × (o ≡ fillOut o text ns)
 unfolding fillCount fillOut
