@@ -1,3 +1,4 @@
 pub mod Alike
 pub mod Stores
 pub mod Texts
+pub mod Accepted

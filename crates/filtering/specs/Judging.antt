@@ -1,6 +1,7 @@
 -- Which tables, headers and rows are taken, and what is wrong with the others.
 -- Assumes nothing.
-use Prim.Native.Nat.{ℕ, _*_, _%_, _^_}
+use Prim.Native.Nat.{ℕ, _*_, _%_, _^_, _≤_}
+use mathlib.Core.Path.{_≡_}
 use mathlib.Core.Bool.{Bool, cond}
 use lib.Dec.{leb, ltb, eqb}
 use Rattle.layout.specs.declared.Verdict.{Verdict}
@@ -42,6 +43,15 @@ maxvalFits maxval b = ltb maxval (2 ^ b)
 -- a scan that is taken
 abbrev pub jobOf : (width height maxval : ℕ) → Job
 jobOf width height maxval = record { width = width; height = height; maxval = maxval; need = width * sampleBytes maxval }
+
+-- what holds of it
+pub record Accepts (j : Job) : Type 0 where
+  pub low : 1 ≤ j .width
+  pub high : j .width ≤ 1024
+  pub few : j .maxval ≤ 4095
+  pub row : j .need ≡ j .width * sampleBytes (j .maxval)
+  pub some : 1 ≤ j .need
+  pub most : j .need ≤ 2048
 
 -- a whole header: the maxval is from 1 to 4,095 and fits b bits, the width is from 1 to 1,024
 unfoldable pub wholeOf : (b width height maxval : ℕ) → Judged

@@ -10,6 +10,7 @@ pub use judging::judge;
 pub use judging::row_fault;
 pub use judging::table_fault;
 pub use moving::forward;
+pub use moving::packed;
 pub use moving::read_most;
 pub use moving::whole_part;
 pub use saying::put_answer;

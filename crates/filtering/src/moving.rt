@@ -2,7 +2,7 @@
 ghost use mathlib.Core.Path.{_≡_};
 ghost use Prim.Native.Nat.{_*_, _/_, min};
 ghost use lib.ListN.{length};
-ghost use Rattle.filtering.specs.Moves.{movedCount, moved};
+ghost use Rattle.filtering.specs.Moves.{packedCount, movedCount, moved};
 use arith::least;
 
 // How many bytes to have at most, with these rows of `need` bytes left: none behind the last row, and 65,536 at most.
@@ -21,6 +21,17 @@ pub fn whole_part(n: usize, l: u32) -> usize
     }
     let k = l as usize;
     n / k * k
+}
+
+// How many places this many rows of l take, or those of the whole rows among the places that there are.
+pub fn packed(rows: usize, l: u32, places: usize) -> usize
+    ensures { λ r. ⌜ r ≡ packedCount rows l places ⌝ }
+{
+    if l == 0 {
+        return 0;
+    }
+    let k = l as usize;
+    least(rows, places / k) * k
 }
 
 // Moves the bytes from place `from` to `end`, or to the end of the store, to its start. Answers how many they are.
