@@ -12,6 +12,7 @@ pub use judging::table_fault;
 pub use moving::forward;
 pub use moving::packed;
 pub use moving::read_most;
+pub use moving::rows_left;
 pub use moving::whole_part;
 pub use saying::put_answer;
 pub use saying::put_fault;

@@ -1,6 +1,6 @@
 // Bytes and samples in a store.
 ghost use mathlib.Core.Path.{_≡_};
-ghost use Prim.Native.Nat.{_*_, _/_, min};
+ghost use Prim.Native.Nat.{_-_, _*_, _/_, min};
 ghost use lib.ListN.{length};
 ghost use Rattle.filtering.specs.Moves.{packedCount, movedCount, moved};
 use arith::least;
@@ -21,6 +21,20 @@ pub fn whole_part(n: usize, l: u32) -> usize
     }
     let k = l as usize;
     n / k * k
+}
+
+// How many rows are left after the rows of these bytes.
+pub fn rows_left(left: u32, bytes: usize, need: u32) -> u32
+    ensures { λ r. ⌜ r ≡ left - bytes / need ⌝ }
+{
+    if need == 0 {
+        return left;
+    }
+    let n = bytes / need as usize;
+    if left as usize <= n {
+        return 0;
+    }
+    left - n as u32
 }
 
 // How many places this many rows of l take, or those of the whole rows among the places that there are.

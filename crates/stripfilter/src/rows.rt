@@ -95,7 +95,7 @@ pub fn rows(plan: Plan, s: Scan, samples: &mut [u16], sums: &mut [u32]) -> Turn
             return t;
         }
         have = filtering::forward(store, bytes, end);
-        left -= (bytes / row) as u32;
+        left = filtering::rows_left(left, bytes, need);
     }
     t
 }

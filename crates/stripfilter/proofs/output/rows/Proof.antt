@@ -1,41 +1,44 @@
+-- The rows are within the pixels.
+-- Assumes nothing.
+use native.Mathlib.Omega.{arith}
+use mathlib.Core.Path.{sym}
+use lib.Seq.{length-take-le}
+use denote.Ref.{now}
+use lib.ListN.{length}
+use Rattle.stripfilter.proofs.Bounds.{packed-within}
 use borrow.Author.Needs.{needs}
 use Rattle.stripfilter.proofs.output.rows.Statement.{statement}
 use Rattle.stripfilter.proofs.output.rows.Tie as tie
-use Rattle.stripfilter.proofs.output.rows.Reads as reads
-use Rattle.stripfilter.proofs.output.rows.Lts as lts
-use Rattle.filtering.proofs.packed.Reads as packed-reads
-use Rattle.stripfilter.proofs.output.lines.Reads as lines-reads
-use Rattle.stripfilter.proofs.output.samples.Reads as samples-reads
 
--- src/output.rt:93:9
 packed-requires : tie.Need-packed-requires
 packed-requires c κs = search needs
 
--- src/output.rt:95:22
 slice-aggregate-lines : tie.Need-slice-aggregate-lines
-slice-aggregate-lines c = search needs
+slice-aggregate-lines c = 
+    let a = c .before .before .before .args in
+    let e = c .before .before .packed .ensures in
+    let w = packed-within (a .count) (a .plan .job .width) (length (now (a .pixels))) in
+    sym (length-take-le _ _ (omega arith))
 
--- src/output.rt:95:36
 cast-lines : tie.Need-cast-lines
 cast-lines c = search needs
 
--- src/output.rt:95:9
 lines-requires : tie.Need-lines-requires
 lines-requires c κs = search needs
 
--- src/output.rt:95:9
 returns : tie.Need-returns
 returns c = search needs
 
--- src/output.rt:97:13
 slice-aggregate-samples : tie.Need-slice-aggregate-samples
-slice-aggregate-samples c = search needs
+slice-aggregate-samples c = 
+    let a = c .before .before .before .args in
+    let e = c .before .before .packed .ensures in
+    let w = packed-within (a .count) (a .plan .job .width) (length (now (a .pixels))) in
+    sym (length-take-le _ _ (omega arith))
 
--- src/output.rt:97:5
 samples-requires : tie.Need-samples-requires
 samples-requires c κs = search needs
 
--- src/output.rt:90:1
 returns-2 : tie.Need-returns-2
 returns-2 c = search needs
 
