@@ -13,7 +13,7 @@ use Rattle.filtering.proofs.judging.maxval_fits.Tie as tie
 
 returns : tie.Need-returns
 unfolding maxvalFits
-returns c = 
+returns c =
     let s = c .before .args in
     let p : 4096 ≤ 2 ^ s .b = pow-mono {i = 12} {j = s .b} (c .if1 .taken) in
     sym (lt-ltb (s .maxval) (2 ^ s .b) (omega arith))

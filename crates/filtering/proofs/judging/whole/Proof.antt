@@ -22,7 +22,7 @@ maxval-fits-requires c κs = search needs
 
 returns-3 : tie.Need-returns-3
 unfolding wholeOf
-returns-3 c = 
+returns-3 c =
     let g = sym (c .before .maxval-fits .ensures) ∙ not-true _ (c .if3 .taken) in
     rw (ne-eqb _ _ (c .before .before .before .if1 .left), le-leb _ _ (c .before .before .if2 .left), g) refl
 
@@ -31,19 +31,19 @@ width-good-requires c κs = search needs
 
 returns-4 : tie.Need-returns-4
 unfolding wholeOf
-returns-4 c = 
+returns-4 c =
     let s = c .before .before .before in
     let g = sym (s .maxval-fits .ensures) ∙ not-false _ (c .before .before .if3 .left) in
     let w = sym (c .before .width-good .ensures) ∙ not-true _ (c .if4 .taken) in
     rw (ne-eqb _ _ (s .before .before .if1 .left), le-leb _ _ (s .before .if2 .left), g, w) refl
 
 row-bytes-requires : tie.Need-row-bytes-requires
-row-bytes-requires c κs = 
+row-bytes-requires c κs =
     width-bounds (sym (c .before .width-good .ensures) ∙ not-false _ (c .if4 .left)) .1
 
 returns-5 : tie.Need-returns-5
 unfolding wholeOf
-returns-5 c = 
+returns-5 c =
     let s = c .before .before .before .before in
     let g = sym (s .maxval-fits .ensures) ∙ not-false _ (c .before .before .before .if3 .left) in
     let w = sym (c .before .before .width-good .ensures) ∙ not-false _ (c .before .if4 .left) in

@@ -22,7 +22,7 @@ least-requires : tie.Need-least-requires Inv-loop μ-loop
 least-requires c κs = search needs
 
 returns : tie.Need-returns Inv-loop μ-loop
-returns c = 
+returns c =
     let a = c .before .before .before .args in
     let l = c .before .least .ensures in
     let z : movedCount (length (now (a .store))) (a .from) (a .end) ≡ 0 = omega arith in
@@ -38,7 +38,7 @@ add-j : tie.Need-add-j Inv-loop μ-loop
 add-j c = search needs
 
 slice-read-store : tie.Need-slice-read-store Inv-loop μ-loop
-slice-read-store c = 
+slice-read-store c =
     let l = c .before .before in
     let s = now (l .before .before .before .before .args .store) in
     let v = l .loop .inv in
@@ -46,7 +46,7 @@ slice-read-store c =
     omega arith
 
 slice-write-store : tie.Need-slice-write-store Inv-loop μ-loop
-slice-write-store c = 
+slice-write-store c =
     let l = c .before .before in
     let s = now (l .before .before .before .before .args .store) in
     let v = l .loop .inv in
@@ -60,21 +60,21 @@ loop-less : tie.Need-loop-less Inv-loop μ-loop
 loop-less c = search needs
 
 loop-again : tie.Need-loop-again Inv-loop μ-loop
-loop-again c = 
+loop-again c =
     let l = c .before .before in
     let a = l .before .before .before .before .args in
     let v = l .loop .inv in
     (omega arith, v .1, rw (v .2, add-one) (one-more (now (a .store)) (a .from) (l .loop .i) (omega arith)))
 
 same-length : tie.Need-same-length Inv-loop μ-loop
-same-length c = 
+same-length c =
     let l = c .before in
     let a = l .before .before .before .before .args in
     let v = l .loop .inv in
     ap length (v .2) ∙ soFar-length (now (a .store)) (a .from) (l .loop .i) (omega arith)
 
 returns-2 : tie.Need-returns-2 Inv-loop μ-loop
-returns-2 c = 
+returns-2 c =
     let l = c .before in
     let a = l .before .before .before .before .args in
     let v = l .loop .inv in

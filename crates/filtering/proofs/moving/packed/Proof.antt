@@ -20,7 +20,7 @@ least-requires : tie.Need-least-requires
 least-requires c κs = search needs
 
 mul-result : tie.Need-mul-result
-mul-result c = 
+mul-result c =
     let a = c .before .before .args in
     let e = c .least .ensures in
     let d = div-mul-le-self (a .places) (a .l) in

@@ -7,7 +7,7 @@ use Rattle.filtering.proofs.moving.read_most.Statement.{statement}
 use Rattle.filtering.proofs.moving.read_most.Tie as tie
 
 mul-least : tie.Need-mul-least
-mul-least c = 
+mul-least c =
     let a = c .args in
     let l = c .fits .left in
     let n = c .fits .need in

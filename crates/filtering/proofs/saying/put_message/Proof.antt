@@ -28,7 +28,7 @@ put-bytes-requires c κs = search needs
 
 returns : tie.Need-returns
 unfolding ascii lines faultLines messageText
-returns c = 
+returns c =
     let s = c .before .before .before .before .before .before .before .before .before .before in
     let m = s .args .m in
     let f = c .before .before .before .before .before .fill-line .ensures in

@@ -32,7 +32,7 @@ shared-slice-read-if2-2 : tie.Need-shared-slice-read-if2-2 Inv-loop μ-loop
 shared-slice-read-if2-2 c = search needs
 
 returns-2 : tie.Need-returns-2 Inv-loop μ-loop
-returns-2 c = 
+returns-2 c =
     let l = c .before .before .before .before in
     let a = l .before .before .args in
     let i = l .loop .inv in
@@ -45,14 +45,14 @@ loop-less : tie.Need-loop-less Inv-loop μ-loop
 loop-less c = search needs
 
 loop-again : tie.Need-loop-again Inv-loop μ-loop
-loop-again c = 
+loop-again c =
     let l = c .before .before .before .before in
     let a = l .before .before .args in
     let i = l .loop .inv in
     (omega arith, i .1, rw add-one (sym (same-on (now (a .a)) (now (a .b)) (l .loop .i) (omega arith) (omega arith) (eq-eqb _ _ (c .if2 .left))) ∙ i .2))
 
 returns-3 : tie.Need-returns-3 Inv-loop μ-loop
-returns-3 c = 
+returns-3 c =
     let l = c .before in
     let a = l .before .before .args in
     let i = l .loop .inv in

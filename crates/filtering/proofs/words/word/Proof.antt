@@ -66,24 +66,39 @@ returns-4 c = rw (no-is (c .before .before .before .before .before .before .befo
 
 returns-5 : tie.Need-returns-5
 unfolding ascii wordOf
-returns-5 c = 
-    rw (no-is (c .before .before .before .before .before .before .before .before .before .before .before .same .ensures) (c .before .before .before .before .before .before .before .before .before .before .if1 .left), no-is (c .before .before .before .before .before .before .before .before .same2 .ensures) (c .before .before .before .before .before .before .before .if2 .left), no-is (c .before .before .before .before .before .same3 .ensures) (c .before .before .before .before .if3 .left), no-is (c .before .before .same4 .ensures) (c .before .if4 .left),
-    no-first _ (c .if5 .taken)) refl
+returns-5 c =
+    rw (
+      no-is (c .before .before .before .before .before .before .before .before .before .before .before .same .ensures) (c .before .before .before .before .before .before .before .before .before .before .if1 .left),
+      no-is (c .before .before .before .before .before .before .before .before .same2 .ensures) (c .before .before .before .before .before .before .before .if2 .left),
+      no-is (c .before .before .before .before .before .same3 .ensures) (c .before .before .before .before .if3 .left),
+      no-is (c .before .before .same4 .ensures) (c .before .if4 .left),
+      no-first _ (c .if5 .taken),
+    ) refl
 
 shared-slice-read-if6 : tie.Need-shared-slice-read-if6
 shared-slice-read-if6 c = search needs
 
 returns-6 : tie.Need-returns-6
 unfolding ascii wordOf
-returns-6 c = 
-    rw (no-is (c .before .before .before .before .before .before .before .before .before .before .before .before .before .same .ensures) (c .before .before .before .before .before .before .before .before .before .before .before .before .if1 .left), no-is (c .before .before .before .before .before .before .before .before .before .before .same2 .ensures) (c .before .before .before .before .before .before .before .before .before .if2 .left), no-is (c .before .before .before .before .before .before .before .same3 .ensures) (c .before .before .before .before .before .before .if3 .left), no-is (c .before .before .before .before .same4 .ensures) (c .before .before .before .if4 .left),
-    eq-eqb _ _ (c .if6 .taken)) refl
+returns-6 c =
+    rw (
+      no-is (c .before .before .before .before .before .before .before .before .before .before .before .before .before .same .ensures) (c .before .before .before .before .before .before .before .before .before .before .before .before .if1 .left),
+      no-is (c .before .before .before .before .before .before .before .before .before .before .same2 .ensures) (c .before .before .before .before .before .before .before .before .before .if2 .left),
+      no-is (c .before .before .before .before .before .before .before .same3 .ensures) (c .before .before .before .before .before .before .if3 .left),
+      no-is (c .before .before .before .before .same4 .ensures) (c .before .before .before .if4 .left),
+      eq-eqb _ _ (c .if6 .taken),
+    ) refl
 
 returns-7 : tie.Need-returns-7
 unfolding ascii wordOf
-returns-7 c = 
-    rw (no-is (c .before .before .before .before .before .before .before .before .before .before .before .before .before .same .ensures) (c .before .before .before .before .before .before .before .before .before .before .before .before .if1 .left), no-is (c .before .before .before .before .before .before .before .before .before .before .same2 .ensures) (c .before .before .before .before .before .before .before .before .before .if2 .left), no-is (c .before .before .before .before .before .before .before .same3 .ensures) (c .before .before .before .before .before .before .if3 .left), no-is (c .before .before .before .before .same4 .ensures) (c .before .before .before .if4 .left),
-    ne-eqb _ _ (c .if6 .left)) refl
+returns-7 c =
+    rw (
+      no-is (c .before .before .before .before .before .before .before .before .before .before .before .before .before .same .ensures) (c .before .before .before .before .before .before .before .before .before .before .before .before .if1 .left),
+      no-is (c .before .before .before .before .before .before .before .before .before .before .same2 .ensures) (c .before .before .before .before .before .before .before .before .before .if2 .left),
+      no-is (c .before .before .before .before .before .before .before .same3 .ensures) (c .before .before .before .before .before .before .if3 .left),
+      no-is (c .before .before .before .before .same4 .ensures) (c .before .before .before .if4 .left),
+      ne-eqb _ _ (c .if6 .left),
+    ) refl
 
 pub word-spec : {M : Type 1} → statement M
 word-spec =

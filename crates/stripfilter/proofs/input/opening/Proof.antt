@@ -46,7 +46,7 @@ slice-reshare-prefix-header : tie.Need-slice-reshare-prefix-header Inv-loop μ-l
 slice-reshare-prefix-header c = search needs
 
 slice-aggregate-header : tie.Need-slice-aggregate-header Inv-loop μ-loop
-slice-aggregate-header c = 
+slice-aggregate-header c =
     let g = c .before .before .before .before .before .before .gather in
     let k = g .kept .1 .0 in
     let i = c .before .before .before .before .before .before .before .before .before .loop .inv in

@@ -26,7 +26,7 @@ close-requires : tie.Need-close-requires
 close-requires c κs = search needs
 
 returns-2 : tie.Need-returns-2
-returns-2 c = 
+returns-2 c =
     let g = c .before .before .gather in
     let e = g .ensures in
     let k = g .kept .1 .0 in

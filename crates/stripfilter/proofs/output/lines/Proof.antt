@@ -46,7 +46,7 @@ slice-reshare-prefix-put : tie.Need-slice-reshare-prefix-put Inv-loop μ-loop
 slice-reshare-prefix-put c = search needs
 
 slice-aggregate-put : tie.Need-slice-aggregate-put Inv-loop μ-loop
-slice-aggregate-put c = 
+slice-aggregate-put c =
     let l = c .before .before .before .line in
     let e = l .ensures .1 .1 in
     let k = l .kept in

@@ -24,14 +24,14 @@ write-all-requires-2 : tie.Need-write-all-requires-2
 write-all-requires-2 c κs = search needs
 
 array-share-prefix-text : tie.Need-array-share-prefix-text
-array-share-prefix-text c = 
+array-share-prefix-text c =
     let p = c .before .before .before .put-fault .ensures in
     let k = kept p in
     let r = p .room in
     omega arith
 
 slice-aggregate-write-all-2 : tie.Need-slice-aggregate-write-all-2
-slice-aggregate-write-all-2 c = 
+slice-aggregate-write-all-2 c =
     let p = c .before .before .before .before .put-fault .ensures in
     let k = kept p in
     let r = p .room in

@@ -14,7 +14,7 @@ packed-requires : tie.Need-packed-requires
 packed-requires c κs = search needs
 
 slice-aggregate-lines : tie.Need-slice-aggregate-lines
-slice-aggregate-lines c = 
+slice-aggregate-lines c =
     let a = c .before .before .before .args in
     let e = c .before .before .packed .ensures in
     let w = packed-within (a .count) (a .plan .job .width) (length (now (a .pixels))) in
@@ -30,7 +30,7 @@ returns : tie.Need-returns
 returns c = search needs
 
 slice-aggregate-samples : tie.Need-slice-aggregate-samples
-slice-aggregate-samples c = 
+slice-aggregate-samples c =
     let a = c .before .before .before .args in
     let e = c .before .before .packed .ensures in
     let w = packed-within (a .count) (a .plan .job .width) (length (now (a .pixels))) in

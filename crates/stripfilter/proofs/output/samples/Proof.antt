@@ -20,7 +20,7 @@ array-share-prefix-page : tie.Need-array-share-prefix-page
 array-share-prefix-page c = search needs
 
 slice-aggregate-put : tie.Need-slice-aggregate-put
-slice-aggregate-put c = 
+slice-aggregate-put c =
     let e = c .before .before .encode .ensures .1 .1 in
     let k = c .before .before .encode .kept .1 .1 .0 in
     sym (length-take-le _ _ (omega arith))

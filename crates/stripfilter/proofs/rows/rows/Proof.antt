@@ -35,7 +35,7 @@ read-most-requires : tie.Need-read-most-requires Inv-loop μ-loop
 read-most-requires c κs = search needs
 
 gather-requires : tie.Need-gather-requires Inv-loop μ-loop
-gather-requires c κs = 
+gather-requires c κs =
     let i = c .before .before .before .loop .inv in
     let f = row-fits _ _ _ (c .read-most .ensures) (c .before .before .loop-test .taken) (c .before .before .before .before .before .before .before .before .before .pre .most) in
     (omega arith, omega arith)
@@ -56,7 +56,7 @@ returns : tie.Need-returns Inv-loop μ-loop
 returns c = search needs
 
 slice-reshare-prefix-some-rows : tie.Need-slice-reshare-prefix-some-rows Inv-loop μ-loop
-slice-reshare-prefix-some-rows c = 
+slice-reshare-prefix-some-rows c =
     let g = c .before .before .before .before .before .gather in
     let e = g .ensures in
     let k = g .kept .1 .0 in
@@ -66,7 +66,7 @@ slice-reshare-prefix-some-rows c =
     omega arith
 
 slice-aggregate-some-rows : tie.Need-slice-aggregate-some-rows Inv-loop μ-loop
-slice-aggregate-some-rows c = 
+slice-aggregate-some-rows c =
     let g = c .before .before .before .before .before .before .gather in
     let e = g .ensures in
     let k = g .kept .1 .0 in
@@ -94,18 +94,21 @@ rows-left-requires : tie.Need-rows-left-requires Inv-loop μ-loop
 rows-left-requires c κs = search needs
 
 loop-less : tie.Need-loop-less Inv-loop μ-loop
-loop-less c = 
+loop-less c =
     let f = fewer _ _ _ _ (c .before .before .before .before .before .before .before .before .before .before .before .before .before .before .before .before .before .before .before .before .before .before .before .loop-test .taken) (c .before .before .before .before .before .before .before .before .before .before .before .before .before .before .before .before .before .before .before .before .before .before .before .before .before .before .before .before .before .before .pre .some) (c .before .before .before .before .before .before .before .before .before .before .before .before .before .before .before .before .before .whole-part .ensures) (c .before .before .before .before .before .before .before .before .before .before .before .before .before .before .before .if1 .left) in
     let e = c .rows-left .ensures in
     omega arith
 
 loop-again : tie.Need-loop-again Inv-loop μ-loop
-loop-again c = 
+loop-again c =
     let i = c .before .before .before .before .before .before .before .before .before .before .before .before .before .before .before .before .before .before .before .before .before .before .before .before .loop .inv in
     let f = c .before .before .before .forward in
-    let k = c .before .before .before .before .before .before .before .before .before .before .before .some-rows .kept in
-    (over _ _ _ _ _ (c .before .before .before .before .before .before .before .before .before .before .before .before .before .before .before .before .before .before .before .before .before .before .before .before .before .before .before .before .before .before .pre .some) (c .before .before .before .before .before .before .before .before .before .before .before .before .before .before .before .before .before .whole-part .ensures) (f .ensures .0),
-    f .kept .0 ∙ c .before .before .before .before .before .before .before .before .before .before .before .before .before .before .before .before .before .before .before .before .gather .kept .1 .0 ∙ i .1, k .1 .1 .1 .0 ∙ i .2, k .1 .1 .1 .1 .0 ∙ i .3)
+    let k = c .before .before .before .before .before .before .before .before .before .before .before .some-rows .kept in (
+      over _ _ _ _ _ (c .before .before .before .before .before .before .before .before .before .before .before .before .before .before .before .before .before .before .before .before .before .before .before .before .before .before .before .before .before .before .pre .some) (c .before .before .before .before .before .before .before .before .before .before .before .before .before .before .before .before .before .whole-part .ensures) (f .ensures .0),
+      f .kept .0 ∙ c .before .before .before .before .before .before .before .before .before .before .before .before .before .before .before .before .before .before .before .before .gather .kept .1 .0 ∙ i .1,
+      k .1 .1 .1 .0 ∙ i .2,
+      k .1 .1 .1 .1 .0 ∙ i .3,
+    )
 
 same-length-5 : tie.Need-same-length-5 Inv-loop μ-loop
 same-length-5 c = search needs

@@ -15,14 +15,14 @@ decode-requires : tie.Need-decode-requires
 decode-requires c κs = search needs
 
 array-share-prefix-space : tie.Need-array-share-prefix-space
-array-share-prefix-space c = 
+array-share-prefix-space c =
     let g = c .before .decode in
     let d = decoded-in _ _ _ _ (g .ensures .0) in
     let k = g .kept .1 .1 .0 in
     omega arith
 
 slice-aggregate-first-above : tie.Need-slice-aggregate-first-above
-slice-aggregate-first-above c = 
+slice-aggregate-first-above c =
     let g = c .before .before .decode in
     let d = decoded-in _ _ _ _ (g .ensures .0) in
     let k = g .kept .1 .1 .0 in
@@ -38,7 +38,7 @@ whole-part-requires : tie.Need-whole-part-requires
 whole-part-requires c κs = search needs
 
 array-share-prefix-space-2 : tie.Need-array-share-prefix-space-2
-array-share-prefix-space-2 c = 
+array-share-prefix-space-2 c =
     let s = c in
     let g = s .before .before .before .before .before .decode in
     let d = decoded-in _ _ _ _ (g .ensures .0) in
@@ -49,7 +49,7 @@ array-share-prefix-space-2 c =
     omega arith
 
 slice-aggregate-rows : tie.Need-slice-aggregate-rows
-slice-aggregate-rows c = 
+slice-aggregate-rows c =
     let s = c .before in
     let g = s .before .before .before .before .before .decode in
     let d = decoded-in _ _ _ _ (g .ensures .0) in
