@@ -2,3 +2,4 @@ pub mod Alike
 pub mod Stores
 pub mod Texts
 pub mod Accepted
+pub mod Orders

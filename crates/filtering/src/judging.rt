@@ -6,6 +6,7 @@ ghost use Rattle.filtering.specs.Judging.{maxvalFits, jobOf, wholeOf, ju
 use crate::Fault;
 use crate::Job;
 use crate::Judged;
+use layout::Table;
 use layout::Verdict;
 use pgm::Opening;
 
@@ -66,12 +67,12 @@ fn whole(b: u8, width: u32, height: u32, maxval: u32) -> Judged
     })
 }
 
-// What the first n bytes of a scan come to, with a table of b bits.
-pub fn judge(b: u8, h: Opening, n: usize) -> Judged
-    ensures { λ r. ⌜ r ≡ judgedOf b h n ⌝ }
+// What the first n bytes of a scan come to, with a table.
+pub fn judge(t: Table, h: Opening, n: usize) -> Judged
+    ensures { λ r. ⌜ r ≡ judgedOf (t .b) h n ⌝ }
 {
     match h {
-        Opening::Whole(width, height, maxval, _) => whole(b, width, height, maxval),
+        Opening::Whole(width, height, maxval, _) => whole(t.b, width, height, maxval),
         Opening::More => {
             if n == 0 {
                 Judged::Faulty(Fault::Empty)

@@ -1,10 +1,10 @@
 // What is read: the words of the command line, the table file, and the scan.
-ghost use Prim.Native.Nat.{_≤_};
-ghost use lib.ListN.{length};
 ghost use Rattle.io.specs.Counts.{Counts};
 use filtering::Command;
 use libc::STDIN_FILENO;
 use pgm::Opening;
+use streams::Got;
+use streams::gather;
 
 // What the command line comes to with the word at place i.
 fn with_word(c: Command, i: usize) -> Command {
@@ -23,46 +23,6 @@ pub fn command() -> Command {
         i += 1;
     }
     filtering::ended(c)
-}
-
-// How many bytes there are, and whether a read failed.
-pub struct Got {
-    pub end: usize,
-    pub failed: bool,
-}
-
-// One read behind the first `end` bytes of a store, up to place `most`.
-fn behind(fd: i32, store: &mut [u8], end: usize, most: usize) -> Got
-    requires { ⌜ (end ≤ most) × (most ≤ length (now store)) ⌝ }
-    ensures { λ g. ⌜ (end ≤ g .end) × (g .end ≤ most) ⌝ }
-{
-    let rest: &mut [u8] = &mut store[end..most];
-    let got = libc::read(fd, rest);
-    let n = io::count(got, rest);
-    Got {
-        end: end + n,
-        failed: got < 0,
-    }
-}
-
-// Reads behind the first `have` bytes of a store, up to place `most`, until there are `need` of them, the input ends or a read
-// fails.
-pub fn gather(fd: i32, store: &mut [u8], have: usize, need: usize, most: usize) -> Got
-    requires { ⌜ (have ≤ most) × (most ≤ length (now store)) ⌝ }
-    ensures { λ g. ⌜ (have ≤ g .end) × (g .end ≤ most) ⌝ }
-{
-    let mut end = have;
-    while end < need {
-        let got = behind(fd, store, end, most);
-        if got.failed {
-            return got;
-        }
-        if got.end == end {
-            return got;
-        }
-        end = got.end;
-    }
-    Got { end, failed: false }
 }
 
 // The bytes of a table file. Where it cannot be opened or read, a line says why.

@@ -61,7 +61,7 @@ fn filter(t: Table, values: bool) {
         return;
     }
     let h = opened.opening;
-    let judged = filtering::judge(t.b, h, opened.n);
+    let judged = filtering::judge(t, h, opened.n);
     match judged {
         Judged::Accepted(job) => start(t, job, values),
         Judged::Faulty(fault) => output::report(b"scan", fault),

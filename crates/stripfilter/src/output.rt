@@ -8,7 +8,7 @@ use filtering::Job;
 use filtering::put_answer;
 use filtering::put_fault;
 use libc::STDERR_FILENO;
-use libc::STDOUT_FILENO;
+use streams::put;
 
 // A line on standard error: what a fault is a fault of, and the fault.
 pub fn report(what: &[u8], fault: Fault) {
@@ -40,15 +40,6 @@ pub struct Plan {
     pub job: Job,
     pub w: u8,
     pub values: bool,
-}
-
-// Writes to standard output. Answers whether that went well, and says so where it did not.
-fn put(bytes: &[u8]) -> bool {
-    let done = io::write_all(STDOUT_FILENO, bytes);
-    if !done {
-        os::fail(b"standard output");
-    }
-    done
 }
 
 // The header of the picture.

@@ -2,14 +2,14 @@
 ghost use Prim.Native.Nat.{_*_, _≤_};
 ghost use lib.ListN.{length};
 ghost use Rattle.filtering.specs.Judging.{Accepts};
-use crate::input::Got;
-use crate::input::gather;
 use crate::output;
 use crate::output::Plan;
 use filtering::Fault;
 use layout::Closing;
 use libc::STDIN_FILENO;
 use scan::Scan;
+use streams::Got;
+use streams::gather;
 
 // The scan after some rows, whether more are to be read, and whether output can still be written.
 pub struct Turn {

@@ -5,8 +5,8 @@ use native.Mathlib.Omega.{arith}
 use mathlib.Core.Path.{_≡_, refl, _∙_}
 use lib.ListN.{length}
 use borrow.Author.Needs.{needs}
-use Rattle.stripfilter.proofs.input.gather.Statement.{statement}
-use Rattle.stripfilter.proofs.input.gather.Tie as tie
+use Rattle.streams.proofs.gather.Statement.{statement}
+use Rattle.streams.proofs.gather.Tie as tie
 
 abbrev Inv-loop : tie.InvT-loop
 Inv-loop fd store₀ have need most end₀ store end = (have ≤ end) × (end ≤ most) × (most ≤ length store) × (length store ≡ length store₀)
