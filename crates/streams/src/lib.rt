@@ -41,10 +41,7 @@ pub fn gather(fd: i32, store: &mut [u8], have: usize, need: usize, most: usize) 
         }
         end = got.end;
     }
-    Got {
-        end,
-        failed: false,
-    }
+    Got { end, failed: false }
 }
 
 // Writes to standard output. Answers whether that went well, and says so where it did not.
