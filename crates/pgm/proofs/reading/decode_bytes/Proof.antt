@@ -1,3 +1,5 @@
+-- Sample after sample is put: the first k places hold the first k bytes.
+-- Assumes nothing.
 use denote.Ref.{now}
 use Prim.Native.Nat.{ℕ, suc, _+_, _-_, _*_, _≤_, _<_}
 use native.Mathlib.Omega.{arith}
@@ -10,9 +12,6 @@ use Rattle.arith.proofs.Passes.{pass-none, pass-set}
 use borrow.Author.Needs.{needs}
 use Rattle.pgm.proofs.reading.decode_bytes.Statement.{statement}
 use Rattle.pgm.proofs.reading.decode_bytes.Tie as tie
-use Rattle.pgm.proofs.reading.decode_bytes.Reads as reads
-use Rattle.pgm.proofs.reading.decode_bytes.Lts as lts
-use Rattle.pgm.proofs.reading.wide.Reads as wide-reads
 
 -- the sample of a byte
 abbrev one : List ℕ → ℕ → ℕ
@@ -25,38 +24,30 @@ Inv-loop bytes n out₀ k₀ out k =
 abbrev μ-loop : tie.MeasureT-loop
 μ-loop bytes n out₀ k₀ out k = n - k
 
--- src/reading.rt:28:5
 loop-holds : tie.Need-loop-holds Inv-loop μ-loop
 loop-holds c =
     let s = c .before .before in
     let a = s .args in
     (search needs, pass-none (one (now (a .bytes))) (now (a .out)), refl, s .pre .1, s .pre .0)
 
--- src/reading.rt:29:23
 shared-slice-read-wide : tie.Need-shared-slice-read-wide Inv-loop μ-loop
 shared-slice-read-wide c = search needs
 
--- src/reading.rt:29:18
 wide-requires : tie.Need-wide-requires Inv-loop μ-loop
 wide-requires c κs = search needs
 
--- src/reading.rt:29:9
 mul-out : tie.Need-mul-out Inv-loop μ-loop
 mul-out c = search needs
 
--- src/reading.rt:29:9
 slice-write-out : tie.Need-slice-write-out Inv-loop μ-loop
 slice-write-out c = search needs
 
--- src/reading.rt:30:9
 add-k : tie.Need-add-k Inv-loop μ-loop
 add-k c = search needs
 
--- src/reading.rt:28:5
 loop-less : tie.Need-loop-less Inv-loop μ-loop
 loop-less c = omega arith
 
--- src/reading.rt:28:5
 loop-again : tie.Need-loop-again Inv-loop μ-loop
 loop-again c =
     let l = c .before .before .before in
@@ -71,11 +62,9 @@ loop-again c =
       i .4,
     )
 
--- src/reading.rt:23:1
 same-length : tie.Need-same-length Inv-loop μ-loop
 same-length c = c .before .loop .inv .2
 
--- src/reading.rt:23:1
 returns : tie.Need-returns Inv-loop μ-loop
 returns c =
     let l = c .before in

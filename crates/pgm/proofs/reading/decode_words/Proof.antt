@@ -1,3 +1,5 @@
+-- Sample after sample is put: the first k places hold the first k pairs of bytes.
+-- Assumes nothing.
 use denote.Ref.{now}
 use Prim.Native.Nat.{ℕ, suc, _+_, _-_, _*_, _≤_, _<_}
 use native.Mathlib.Omega.{arith}
@@ -10,9 +12,6 @@ use Rattle.arith.proofs.Passes.{pass-none, pass-set}
 use borrow.Author.Needs.{needs}
 use Rattle.pgm.proofs.reading.decode_words.Statement.{statement}
 use Rattle.pgm.proofs.reading.decode_words.Tie as tie
-use Rattle.pgm.proofs.reading.decode_words.Reads as reads
-use Rattle.pgm.proofs.reading.decode_words.Lts as lts
-use Rattle.pgm.proofs.reading.joined.Reads as joined-reads
 
 -- the sample of two bytes
 abbrev two : List ℕ → ℕ → ℕ
@@ -25,50 +24,39 @@ Inv-loop bytes n out₀ k₀ out k =
 abbrev μ-loop : tie.MeasureT-loop
 μ-loop bytes n out₀ k₀ out k = n - k
 
--- src/reading.rt:40:5
 loop-holds : tie.Need-loop-holds Inv-loop μ-loop
 loop-holds c =
     let s = c .before .before in
     let a = s .args in
     (search needs, pass-none (two (now (a .bytes))) (now (a .out)), refl, s .pre .1, s .pre .0)
 
--- src/reading.rt:41:17
 mul-p : tie.Need-mul-p Inv-loop μ-loop
 mul-p c = search needs
 
--- src/reading.rt:42:17
 add-q : tie.Need-add-q Inv-loop μ-loop
 add-q c = search needs
 
--- src/reading.rt:43:25
 shared-slice-read-joined : tie.Need-shared-slice-read-joined Inv-loop μ-loop
 shared-slice-read-joined c = search needs
 
--- src/reading.rt:43:35
 shared-slice-read-joined-2 : tie.Need-shared-slice-read-joined-2 Inv-loop μ-loop
 shared-slice-read-joined-2 c = search needs
 
--- src/reading.rt:43:18
 joined-requires : tie.Need-joined-requires Inv-loop μ-loop
 joined-requires c κs = search needs
 
--- src/reading.rt:43:9
 mul-out : tie.Need-mul-out Inv-loop μ-loop
 mul-out c = search needs
 
--- src/reading.rt:43:9
 slice-write-out : tie.Need-slice-write-out Inv-loop μ-loop
 slice-write-out c = search needs
 
--- src/reading.rt:44:9
 add-k : tie.Need-add-k Inv-loop μ-loop
 add-k c = search needs
 
--- src/reading.rt:40:5
 loop-less : tie.Need-loop-less Inv-loop μ-loop
 loop-less c = omega arith
 
--- src/reading.rt:40:5
 loop-again : tie.Need-loop-again Inv-loop μ-loop
 loop-again c =
     let l = c .before .before .before .before in
@@ -83,11 +71,9 @@ loop-again c =
       i .4,
     )
 
--- src/reading.rt:35:1
 same-length : tie.Need-same-length Inv-loop μ-loop
 same-length c = c .before .loop .inv .2
 
--- src/reading.rt:35:1
 returns : tie.Need-returns Inv-loop μ-loop
 returns c =
     let l = c .before in
