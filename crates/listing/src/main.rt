@@ -1,15 +1,21 @@
 // The table listing: reads a table file from standard input and prints what it holds, or the number of the
-// refusal. At most 154 bytes are read, one more than the longest table has.
+// refusal. At most 154 bytes are read, one more than the longest table has. Where it cannot be read, a line on standard error
+// says so, and what came is listed.
 mod cells;
 mod lines;
 
 use libc::STDIN_FILENO;
-use libc::STDOUT_FILENO;
+use streams::gather;
+use streams::put;
 
 fn main() {
     let mut input = [0u8; 154];
-    let n = io::read_full(STDIN_FILENO, &mut input);
+    let got = gather(STDIN_FILENO, &mut input, 0, 154, 154);
+    if got.failed {
+        os::fail(b"standard input");
+    }
+    let n = got.end;
     let mut page = io::buffer();
     let end = lines::list(&input[..n], &mut page);
-    io::write_all(STDOUT_FILENO, &page[..end]);
+    put(&page[..end]);
 }

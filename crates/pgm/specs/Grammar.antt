@@ -71,12 +71,16 @@ unfoldable pub ended : List ℕ → (width height maxval at : ℕ) → Opening
 ended bs width height maxval at =
     cond (leb (length bs) at) More (cond (blank (getD bs at 0)) (Whole width height maxval (at + 1)) (Bad 3 at))
 
+-- the maxval, after the width and the height; the height and the maxval, after the width
+abbrev pub lastOf : List ℕ → (width height at : ℕ) → Opening
+lastOf bs width height at = andThen (field 2 bs at) (λ maxval at. ended bs width height maxval at)
+
+abbrev pub laterOf : List ℕ → (width at : ℕ) → Opening
+laterOf bs width at = andThen (field 1 bs at) (λ height at. lastOf bs width height at)
+
 -- the three numbers, from place 2 on
 unfoldable pub numbersOf : List ℕ → Opening
-numbersOf bs =
-    andThen (field 0 bs 2) (λ width at.
-    andThen (field 1 bs at) (λ height at.
-    andThen (field 2 bs at) (λ maxval at. ended bs width height maxval at)))
+numbersOf bs = andThen (field 0 bs 2) (λ width at. laterOf bs width at)
 
 -- bs begins with `P5` and a gap
 unfoldable pub magic : List ℕ → Bool

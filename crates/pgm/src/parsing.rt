@@ -2,7 +2,7 @@
 ghost use mathlib.Core.Path.{_≡_};
 ghost use Prim.Native.Nat.{_≤_};
 ghost use lib.ListN.{length};
-ghost use Rattle.pgm.specs.Grammar.{field as Grammar·field, andThen, ended as Grammar·ended, numbersOf, magic as Grammar·magic, headerOf};
+ghost use Rattle.pgm.specs.Grammar.{field as Grammar·field, ended as Grammar·ended, lastOf, laterOf, numbersOf, magic as Grammar·magic, headerOf};
 use crate::Opening;
 use crate::lexing::blank;
 use crate::lexing::gap;
@@ -48,7 +48,7 @@ fn ended(bytes: &[u8], width: u32, height: u32, maxval: u32, at: usize) -> Openi
 
 // The maxval, after the width and the height.
 fn last(bytes: &[u8], width: u32, height: u32, at: usize) -> Opening
-    ensures { λ r. ⌜ r ≡ andThen (Grammar·field 2 (now (bytes .entry)) at) (λ maxval at. Grammar·ended (now (bytes .entry)) width height maxval at) ⌝ }
+    ensures { λ r. ⌜ r ≡ lastOf (now (bytes .entry)) width height at ⌝ }
 {
     let f = field(2, bytes, at);
     match f {
@@ -59,7 +59,7 @@ fn last(bytes: &[u8], width: u32, height: u32, at: usize) -> Opening
 
 // The height and the maxval, after the width.
 fn later(bytes: &[u8], width: u32, at: usize) -> Opening
-    ensures { λ r. ⌜ r ≡ andThen (Grammar·field 1 (now (bytes .entry)) at) (λ height at. andThen (Grammar·field 2 (now (bytes .entry)) at) (λ maxval at. Grammar·ended (now (bytes .entry)) width height maxval at)) ⌝ }
+    ensures { λ r. ⌜ r ≡ laterOf (now (bytes .entry)) width at ⌝ }
 {
     let f = field(1, bytes, at);
     match f {

@@ -34,7 +34,8 @@ fn decode_bytes(bytes: &[u8], n: usize, out: &mut [u16])
 // The first n samples of two bytes, the high one first.
 fn decode_words(bytes: &[u8], n: usize, out: &mut [u16])
     requires { ⌜ (2 * n ≤ length (now bytes)) × (n ≤ length (now out)) ⌝ }
-    ensures { λ _. ⌜ now (out .exit) ≡ tab n (λ k. getD (now (bytes .entry)) (2 * k) 0 * 256 + getD (now (bytes .entry)) (2 * k + 1) 0) ++ drop n (now (out .entry)) ⌝ }
+    ensures { λ _. ⌜ now (out .exit)
+        ≡ tab n (λ k. getD (now (bytes .entry)) (2 * k) 0 * 256 + getD (now (bytes .entry)) (2 * k + 1) 0) ++ drop n (now (out .entry)) ⌝ }
 {
     let mut k = 0;
     while k < n {

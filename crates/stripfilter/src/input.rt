@@ -1,120 +1,92 @@
-// What is read: the table file, and the header of the scan.
-ghost use mathlib.Core.Path.{_≡_};
-ghost use Prim.Native.Nat.{_+_, _-_, _≤_, _<_};
-ghost use lib.ListN.{length};
+// What is read: the words of the command line, the table file, and the scan.
 ghost use Rattle.io.specs.Counts.{Counts};
-use crate::faults;
+use filtering::Command;
 use libc::STDIN_FILENO;
 use pgm::Opening;
+use streams::Got;
+use streams::gather;
 
-// Whether an argument of eight bytes is --values.
-pub fn is_values(word: &[u8; 8]) -> bool {
-    let wanted = b"--values";
-    let mut i = 0;
-    while i < 8 {
-        if word[i] != wanted[i] {
-            return false;
-        }
-        i += 1;
-    }
-    true
+// What the command line comes to with the word at place i.
+fn with_word(c: Command, i: usize) -> Command {
+    let mut word = io::buffer();
+    let n = os::arg(i, &mut word);
+    filtering::next(c, i, &word[..n])
 }
 
-// The bytes of a table file; 0 where there are none, and a line that says why.
-pub fn table(path: &[u8], bytes: &mut [u8]) -> usize
-    ensures { λ n. ⌜ Counts n (now (bytes .exit)) ⌝ }
+// What the words of the command line come to.
+pub fn command() -> Command {
+    let n = os::arg_count();
+    let mut c = Command::Filter(false, 0);
+    let mut i = 1;
+    while i < n {
+        c = with_word(c, i);
+        i += 1;
+    }
+    filtering::ended(c)
+}
+
+// The bytes of a table file. Where it cannot be opened or read, a line says why.
+pub fn table(path: &[u8], bytes: &mut [u8; 154]) -> Got
+    ensures { λ g. ⌜ Counts (g .end) (now (bytes .exit)) ⌝ }
 {
     let fd = os::open_read(path);
     if fd < 0 {
         os::fail(path);
-        return 0;
+        return Got {
+            end: 0,
+            failed: true,
+        };
     }
-    let n = io::read_full(fd, bytes);
-    if n == 0 {
-        nothing(path, fd);
+    let got = gather(fd, bytes, 0, 154, 154);
+    if got.failed {
+        os::fail(path);
     }
     libc::close(fd);
-    n
+    got
 }
 
-// Says why a file gave no bytes: it cannot be read, or it is empty.
-fn nothing(path: &[u8], fd: i32) {
-    let mut one = [0u8; 1];
-    if libc::read(fd, &mut one) < 0 {
-        os::fail(path);
-    } else {
-        faults::empty(path);
-    }
+// The header of the scan, how many bytes of it were read, and whether a read failed.
+pub struct Opened {
+    pub opening: Opening,
+    pub n: usize,
+    pub failed: bool,
 }
 
-// One more byte of standard input, at place n. Answers whether there was one.
-fn next(bytes: &mut [u8], n: usize) -> bool
-    requires { ⌜ n < length (now bytes) ⌝ }
-{
-    let mut one = [0u8; 1];
-    if io::read_full(STDIN_FILENO, &mut one) == 0 {
-        return false;
+// A header that goes on where nothing more comes.
+fn unfinished(n: usize, failed: bool) -> Opened {
+    Opened {
+        opening: Opening::More,
+        n,
+        failed,
     }
-    bytes[n] = one[0];
-    true
 }
 
 // The header of the scan, read byte by byte, so that nothing of the rows is taken.
-pub fn opening() -> Opening {
+pub fn opening() -> Opened {
     let mut space = io::buffer();
     let bytes: &mut [u8] = &mut space;
     let mut n = 0;
     while n < 4096 {
-        if !next(bytes, n) {
-            return Opening::More;
+        let next = n + 1;
+        let got = gather(STDIN_FILENO, bytes, n, next, next);
+        if got.failed {
+            return unfinished(n, true);
         }
-        n += 1;
+        if got.end == n {
+            return unfinished(n, false);
+        }
+        n = next;
         let h = pgm::header(&bytes[..n]);
         match h {
             Opening::More => {}
-            _ => return h,
+            _ => {
+                return Opened {
+                    opening: h,
+                    n,
+                    failed: false,
+                };
+            }
         }
     }
-    Opening::More
-}
-
-// Reads behind the first `end` bytes of a store, up to place `most`. Answers how many bytes came, 0 at the end of the input.
-fn behind(store: &mut [u8], end: usize, most: usize) -> usize
-    requires { ⌜ (end ≤ most) × (most ≤ length (now store)) ⌝ }
-    ensures { λ n. ⌜ end + n ≤ most ⌝ }
-{
-    let rest: &mut [u8] = &mut store[end..most];
-    io::count(libc::read(STDIN_FILENO, rest), rest)
-}
-
-// Reads behind the first `have` bytes of a store, up to place `most`, until there are `need` of them or the input ends.
-// Answers how many there are.
-pub fn gather(store: &mut [u8], have: usize, need: usize, most: usize) -> usize
-    requires { ⌜ (have ≤ most) × (most ≤ length (now store)) ⌝ }
-    ensures { λ n. ⌜ n ≤ most ⌝ }
-{
-    let mut end = have;
-    while end < need {
-        let n = behind(store, end, most);
-        if n == 0 {
-            return end;
-        }
-        end += n;
-    }
-    end
-}
-
-// Moves the bytes from place `from` to `end` to the start of a store. Answers how many they are.
-pub fn forward(store: &mut [u8], from: usize, end: usize) -> usize
-    requires { ⌜ (from ≤ end) × (end ≤ length (now store)) ⌝ }
-    ensures { λ n. ⌜ n ≡ end - from ⌝ }
-{
-    let n = end - from;
-    let mut i = 0;
-    while i < n {
-        let j = from + i;
-        store[i] = store[j];
-        i += 1;
-    }
-    n
+    unfinished(n, false)
 }

@@ -1,107 +1,89 @@
 // What is written.
-ghost use Prim.Native.Nat.{_≤_};
+ghost use Prim.Native.Nat.{_*_, _≤_};
 ghost use lib.ListN.{length};
-use libc::STDOUT_FILENO;
+ghost use Rattle.filtering.specs.Judging.{Accepts};
+use filtering::Command;
+use filtering::Fault;
+use filtering::Job;
+use filtering::put_answer;
+use filtering::put_fault;
+use libc::STDERR_FILENO;
+use streams::put;
 
-// A scan to filter: its width, height and maxval, the pixel word of the table, and whether values are wanted.
-pub struct Job {
-    pub width: usize,
-    pub height: u32,
-    pub maxval: u32,
+// A line on standard error: what a fault is a fault of, and the fault.
+pub fn report(what: &[u8], fault: Fault) {
+    let mut text = io::buffer();
+    let n = put_fault(fault, &mut text);
+    io::write_all(STDERR_FILENO, what);
+    io::write_all(STDERR_FILENO, b": ");
+    io::write_all(STDERR_FILENO, &text[..n]);
+}
+
+// The answer to a command line that asks for no filtering.
+pub fn answer(fd: i32, c: Command) {
+    let mut text = io::buffer();
+    let n = put_answer(c, &mut text);
+    io::write_all(fd, &text[..n]);
+}
+
+// The same about word i.
+pub fn no_option(c: Command, i: usize) {
+    let mut word = io::buffer();
+    let n = os::arg(i, &mut word);
+    io::write_all(STDERR_FILENO, &word[..n]);
+    io::write_all(STDERR_FILENO, b": ");
+    answer(STDERR_FILENO, c);
+}
+
+// A scan to filter: what its header says, the pixel word of the table, and whether values are wanted.
+pub struct Plan {
+    pub job: Job,
     pub w: u8,
     pub values: bool,
 }
 
-// Writes to standard output. Answers whether that went well, and says so where it did not.
-fn put(bytes: &[u8]) -> bool {
-    let done = io::write_all(STDOUT_FILENO, bytes);
-    if !done {
-        os::fail(b"standard output");
-    }
-    done
-}
-
 // The header of the picture.
-pub fn begin(job: Job) -> bool
-    requires { ⌜ job .width ≤ 1024 ⌝ }
-{
-    if job.values {
+pub fn begin(plan: Plan) -> bool {
+    if plan.values {
         return true;
     }
     let mut text = [0u8; 66];
-    let n = pgm::head(job.width as u32, job.height, &mut text);
+    let n = pgm::head(plan.job.width, plan.job.height, &mut text);
     put(&text[..n])
 }
 
-// A filtered row as decimal numbers.
-fn values(pixels: &[i32]) -> bool {
-    let mut text = [0u8; 22528];
-    let n = pgm::line(pixels, &mut text);
-    put(&text[..n])
-}
-
-// A page of the picture, which is written when it is full: how many bytes stand on it, and whether writing went well.
-pub struct Page {
-    pub used: usize,
-    pub good: bool,
-}
-
-// Writes what stands on a page.
-pub fn flush(page: &[u8], used: usize) -> bool
-    requires { ⌜ used ≤ length (now page) ⌝ }
+// Filtered rows as lines of decimal numbers.
+fn lines(pixels: &[i32], width: usize) -> bool
+    requires { ⌜ 1 ≤ width ⌝ }
 {
-    put(&page[..used])
-}
-
-// Makes room for n bytes more: writes the page where there is none.
-fn room(page: &[u8], used: usize, n: usize) -> Page
-    requires { ⌜ used ≤ length (now page) ⌝ }
-    ensures { λ p. ⌜ p .used ≤ length (now (page .entry)) ⌝ }
-{
-    if n <= page.len() - used {
-        return Page { used, good: true };
+    let mut space = [0u8; 22528];
+    let text: &mut [u8] = &mut space;
+    let mut at = 0;
+    while width <= pixels.len() - at {
+        let end = at + width;
+        let n = pgm::line(&pixels[at..end], text);
+        if !put(&text[..n]) {
+            return false;
+        }
+        at = end;
     }
-    let good = flush(page, used);
-    Page { used: 0, good }
+    true
 }
 
-// A filtered row as samples of the picture.
-fn samples(job: Job, pixels: &[i32], page: &mut [u8], used: usize) -> Page
-    requires { ⌜ (job .width ≤ 1024) × (used ≤ length (now page)) ⌝ }
-    ensures { λ p. ⌜ p .used ≤ length (now (page .entry)) ⌝ }
-{
-    let start = room(page, used, 2 * job.width);
-    let at = start.used;
-    if !start.good {
-        return start;
-    }
-    let end = page.len();
-    let n = 2 * pgm::encode(pixels, job.w, &mut page[at..end]);
-    Page {
-        used: at + n,
-        good: true,
-    }
+// Filtered rows as samples of the picture.
+fn samples(pixels: &[i32], w: u8) -> bool {
+    let mut page = [0u8; 131072];
+    let n = 2 * pgm::encode(pixels, w, &mut page);
+    put(&page[..n])
 }
 
-// A filtered row: onto the page, or as a line of numbers, which is written at once.
-pub fn row(job: Job, pixels: &[i32], page: &mut [u8], used: usize) -> Page
-    requires { ⌜ (job .width ≤ 1024) × (used ≤ length (now page)) ⌝ }
-    ensures { λ p. ⌜ p .used ≤ length (now (page .entry)) ⌝ }
+// Filtered rows, this many at the start of the pixels.
+pub fn rows(plan: Plan, pixels: &[i32], count: usize) -> bool
+    requires { ⌜ Accepts (plan .job) ⌝ }
 {
-    if job.values {
-        return Page {
-            used,
-            good: values(pixels),
-        };
+    let n = filtering::packed(count, plan.job.width, pixels.len());
+    if plan.values {
+        return lines(&pixels[..n], plan.job.width as usize);
     }
-    samples(job, pixels, page, used)
-}
-
-// A filtered row, written at once.
-pub fn row_alone(job: Job, pixels: &[i32]) -> bool
-    requires { ⌜ job .width ≤ 1024 ⌝ }
-{
-    let mut page = [0u8; 2048];
-    let p = row(job, pixels, &mut page, 0);
-    if p.good { flush(&page, p.used) } else { false }
+    samples(&pixels[..n], plan.w)
 }

@@ -6,8 +6,8 @@ use mathlib.Core.Path.{_≡_, refl, sym, ap, ap₂, _∙_}
 use mathlib.Core.List.{List, [], _∷_, _++_}
 use mathlib.Core.Bool.{Bool, true, false, cond}
 use lib.Dec.{ltb}
-use lib.ListN.{length, take, drop, set, length-set, length-append}
-use lib.Seq.{drop-cons, drop-set-lt, getD-set-same}
+use lib.ListN.{length, take, drop, set, length-set, length-append, length-drop}
+use lib.Seq.{drop-cons, drop-set-lt, getD-set-same, take-at}
 use lib.IntN.{ℤ, pos, negsuc}
 use Rattle.arith.specs.Diff.{Diff}
 use Rattle.arith.proofs.Parts.{tail-is}
@@ -24,6 +24,15 @@ drop-set buf i v h =
 pub cell-lent : (b : List ℕ) (i n end : ℕ) → length b ≡ 22 → drop i b ≡ decimal n ++ (end ∷ []) → take (22 - i) (drop i b) ≡ cell n end
 unfolding cell
 cell-lent b i n end e d = ap (λ k. take (k - i) (drop i b)) (sym e) ∙ tail-is i b ∙ d
+
+-- `&buf[i..21]` where a number ends before the last byte of the buffer
+pub number-lent : (b : List ℕ) (i n : ℕ) (end : List ℕ) → length b ≡ 22 → i ≤ 20 → length end ≡ 1 → drop i b ≡ decimal n ++ end
+    → take (21 - i) (drop i b) ≡ decimal n
+number-lent b i n end e h one d =
+    let l = ap length d ∙ length-append (decimal n) end in
+    let k = length-drop i b in
+    let m : length (decimal n) ≡ 21 - i = omega arith in
+    ap (take (21 - i)) d ∙ take-at (decimal n) end (21 - i) m
 
 -- the same with a sign put in front
 pub negative-lent :
@@ -62,6 +71,11 @@ spell-length (suc places) n = go (ltb n 10) (spell-length places (n / 10))
         → length (cond c ((48 + n) ∷ []) (spell places (n / 10) ++ ((48 + n % 10) ∷ []))) ≤ suc places
     go true h = omega arith
     go false h = let l = length-append (spell places (n / 10)) ((48 + n % 10) ∷ []) in omega arith
+
+-- a number takes at most 20 bytes
+pub number-length : (n : ℕ) → length (decimal n) ≤ 20
+unfolding decimal
+number-length n = spell-length 20 n
 
 -- a number and the byte after it take at most 21 bytes, an integer and the byte after it at most 22
 pub cell-length : (n end : ℕ) → length (cell n end) ≤ 21

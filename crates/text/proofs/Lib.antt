@@ -1,2 +1,5 @@
 pub mod Puts
 pub mod Cells
+pub mod Feeds
+pub mod Pieces
+pub mod Widths

@@ -59,14 +59,6 @@ put-then {o} {o1} {o2} {s} {t} {a} {b} {c} p q =
       room = let r = q .room in let k = kept p in omega arith;
     }
 
-pub put-byte : (o : List ℕ) (a v : ℕ) → a < length o → Put o a (v ∷ []) (set o a v) (a + 1)
-put-byte o a v h =
-    record {
-      now = set-split o a v h ∙ ap (λ n. take a o ++ v ∷ drop n o) (sym (add-one a)) ∙ sym (append-snoc (take a o) v (drop (a + 1) o));
-      next-is = refl;
-      room = omega arith;
-    }
-
 -- ---- with and without room
 
 pub put-text : (o : List ℕ) (a : ℕ) (s : List ℕ) → a + length s ≤ length o → Put o a s (putText o a s) (putEnd o a s)

@@ -49,6 +49,16 @@ fn digits(n: u64, buf: &mut [u8]) -> usize
     i
 }
 
+// A number.
+pub fn put_number(out: &mut [u8], at: usize, n: u64) -> usize
+    ensures { λ r. ⌜ r ≡ putEnd (now (out .entry)) at (decimal n) ⌝ }
+    ensures { λ _. ⌜ now (out .exit) ≡ putText (now (out .entry)) at (decimal n) ⌝ }
+{
+    let mut buf = [0u8; 22];
+    let start = digits(n, &mut buf);
+    put_bytes(out, at, &buf[start..21])
+}
+
 // A number and the byte after it.
 pub fn put_cell(out: &mut [u8], at: usize, n: u64, end: u8) -> usize
     ensures { λ r. ⌜ r ≡ putEnd (now (out .entry)) at (cell n end) ⌝ }

@@ -1,20 +1,16 @@
+-- There is room, so the bytes are put.
+-- Assumes nothing.
 use Rattle.text.proofs.Puts.{put-said}
 use borrow.Author.Needs.{needs}
 use Rattle.listing.proofs.cells.put_bytes.Statement.{statement}
 use Rattle.listing.proofs.cells.put_bytes.Tie as tie
-use Rattle.listing.proofs.cells.put_bytes.Reads as reads
-use Rattle.listing.proofs.cells.put_bytes.Lts as lts
-use Rattle.text.proofs.put_bytes.Reads as put-bytes-reads
 
--- src/cells.rt:12:5
 put-bytes-requires : tie.Need-put-bytes-requires
 put-bytes-requires c κs = search needs
 
--- src/cells.rt:8:1
 same-length : tie.Need-same-length
 same-length c = search needs
 
--- src/cells.rt:8:1
 returns : tie.Need-returns
 returns c =
     let e = c .before .before .put-bytes .ensures in

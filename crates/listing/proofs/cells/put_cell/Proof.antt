@@ -1,22 +1,18 @@
+-- A number and the byte after it have at most 21 bytes.
+-- Assumes nothing.
 use native.Mathlib.Omega.{arith}
 use Rattle.text.proofs.Puts.{put-said}
 use Rattle.text.proofs.Cells.{cell-length}
 use borrow.Author.Needs.{needs}
 use Rattle.listing.proofs.cells.put_cell.Statement.{statement}
 use Rattle.listing.proofs.cells.put_cell.Tie as tie
-use Rattle.listing.proofs.cells.put_cell.Reads as reads
-use Rattle.listing.proofs.cells.put_cell.Lts as lts
-use Rattle.text.proofs.put_cell.Reads as put-cell-reads
 
--- src/cells.rt:21:5
 put-cell-requires : tie.Need-put-cell-requires
 put-cell-requires c κs = search needs
 
--- src/cells.rt:16:1
 same-length : tie.Need-same-length
 same-length c = search needs
 
--- src/cells.rt:16:1
 returns : tie.Need-returns
 returns c =
     let s = c .before .before .before .before .before in

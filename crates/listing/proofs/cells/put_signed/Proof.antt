@@ -1,3 +1,5 @@
+-- An integer and the byte after it have at most 22 bytes.
+-- Assumes nothing.
 use mathlib.Core.Path.{_≡_, _∙_}
 use lib.IntN.{ℤ}
 use mir.Val.{SFits, toZ, ofZ}
@@ -10,23 +12,16 @@ use Rattle.text.proofs.Cells.{signed-length}
 use borrow.Author.Needs.{needs}
 use Rattle.listing.proofs.cells.put_signed.Statement.{statement}
 use Rattle.listing.proofs.cells.put_signed.Tie as tie
-use Rattle.listing.proofs.cells.put_signed.Reads as reads
-use Rattle.listing.proofs.cells.put_signed.Lts as lts
-use Rattle.text.proofs.put_signed.Reads as put-signed-reads
 
--- src/cells.rt:41:31
 cast-put-signed : tie.Need-cast-put-signed
 cast-put-signed c = widened w16 w32 (c .before .before .args .z) (c .before .before .fits .z) tt
 
--- src/cells.rt:41:5
 put-signed-requires : tie.Need-put-signed-requires
 put-signed-requires c κs = search needs
 
--- src/cells.rt:36:1
 same-length : tie.Need-same-length
 same-length c = search needs
 
--- src/cells.rt:36:1
 returns : tie.Need-returns
 returns c =
     let s = c .before .before .before .before .before in

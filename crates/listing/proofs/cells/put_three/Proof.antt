@@ -1,30 +1,24 @@
+-- Three numbers one after the other.
+-- Assumes nothing.
 use Rattle.listing.specs.Listing.{three}
 use Rattle.text.proofs.Puts.{put-then}
 use native.Mathlib.Omega.{arith}
 use borrow.Author.Needs.{needs}
 use Rattle.listing.proofs.cells.put_three.Statement.{statement}
 use Rattle.listing.proofs.cells.put_three.Tie as tie
-use Rattle.listing.proofs.cells.put_three.Reads as reads
-use Rattle.listing.proofs.cells.put_three.Lts as lts
-use Rattle.listing.proofs.cells.put_cell.Reads as put-cell-reads
 
--- src/cells.rt:56:9
 put-cell-requires : tie.Need-put-cell-requires
 put-cell-requires c κs = search needs
 
--- src/cells.rt:57:9
 put-cell-requires-2 : tie.Need-put-cell-requires-2
 put-cell-requires-2 c κs = search needs
 
--- src/cells.rt:58:5
 put-cell-requires-3 : tie.Need-put-cell-requires-3
 put-cell-requires-3 c κs = search needs
 
--- src/cells.rt:51:1
 same-length : tie.Need-same-length
 same-length c = search needs
 
--- src/cells.rt:51:1
 returns : tie.Need-returns
 unfolding three
 returns c =

@@ -1,3 +1,5 @@
+-- A file that is refused gives its number, an accepted one its table.
+-- Assumes nothing.
 use Rattle.listing.specs.Listing.{refusedLine, tableLines, listingOf}
 use Rattle.table.proofs.Sound.{refused-from, loaded-from, load-sound}
 use Rattle.layout.specs.Answers.{said}
@@ -13,11 +15,6 @@ use Prim.Native.Nat.{ℕ, _≤_}
 use borrow.Author.Needs.{needs}
 use Rattle.listing.proofs.lines.list.Statement.{statement}
 use Rattle.listing.proofs.lines.list.Tie as tie
-use Rattle.listing.proofs.lines.list.Reads as reads
-use Rattle.listing.proofs.lines.list.Lts as lts
-use Rattle.listing.proofs.lines.put_refused.Reads as put-refused-reads
-use Rattle.listing.proofs.lines.put_table.Reads as put-table-reads
-use Rattle.table.proofs.load.Reads as load-reads
 
 -- the file was accepted: the struct holds its table, whose header and number of rectangles are within the limits
 record Read (bs : List ℕ) (t : Table) : Type 0 where
@@ -38,44 +35,35 @@ refused-list : (bs : List ℕ) (v : Verdict) (t : Table) (n p : ℕ) → handed 
 unfolding listingOf
 refused-list bs v t n p e a = ap listingOf (refused-from (loadOf bs) n p (sym (ap (λ h. h .said) e) ∙ ap said a))
 
--- src/lines.rt:107:9
 load-requires : tie.Need-load-requires
 load-requires c κs = search needs
 
--- src/lines.rt:110:26
 enum-known-v : tie.Need-enum-known-v
 enum-known-v c = search needs
 
--- src/lines.rt:110:40
 put-refused-requires : tie.Need-put-refused-requires
 put-refused-requires c κs = search needs
 
--- src/lines.rt:112:17
 enum-told : tie.Need-enum-told
 enum-told c = search needs
 
--- src/lines.rt:113:13
 put-table-requires : tie.Need-put-table-requires
 put-table-requires c κs =
     let l = c .before .before .before .before .load .ensures in
     let r = read _ _ _ l (c .before .before .enum-told .given .1) in
     (r .drops, (r .few, search needs))
 
--- src/lines.rt:103:1
 same-length : tie.Need-same-length
 same-length c = search needs
 
--- src/lines.rt:103:1
 returns : tie.Need-returns
 returns c =
     let l = c .before .before .before .before .before .before .before .load .ensures in
     rw (refused-list _ _ _ _ _ l (c .before .before .before .before .before .v .given .1)) (c .before .before .put-refused .ensures)
 
--- src/lines.rt:103:1
 same-length-2 : tie.Need-same-length-2
 same-length-2 c = search needs
 
--- src/lines.rt:103:1
 returns-2 : tie.Need-returns-2
 returns-2 c =
     let l = c .before .before .before .before .before .before .before .load .ensures in

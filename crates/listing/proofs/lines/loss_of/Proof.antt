@@ -1,3 +1,5 @@
+-- Within the limits the loss figure is answered.
+-- Assumes nothing.
 use Rattle.limits.specs.Figures.{figureSaid, lossOf}
 use Rattle.limits.proofs.Answers.{figure-injective}
 use Rattle.limits.specs.Limits.{bitsGood, dropsGood}
@@ -13,9 +15,6 @@ use native.Mathlib.Omega.{arith}
 use borrow.Author.Needs.{needs}
 use Rattle.listing.proofs.lines.loss_of.Statement.{statement}
 use Rattle.listing.proofs.lines.loss_of.Tie as tie
-use Rattle.listing.proofs.lines.loss_of.Reads as reads
-use Rattle.listing.proofs.lines.loss_of.Lts as lts
-use Rattle.limits.proofs.loss.Reads as loss-reads
 
 -- within the limits the call answers the figure
 figure-is : (t : Table) (r : Rect) (f : Figure) → (bitsGood (t .b) ≡ true) × (dropsGood (t .b) (t .q1) (t .q2) (t .q3) ≡ true)
@@ -23,26 +22,21 @@ figure-is : (t : Table) (r : Rect) (f : Figure) → (bitsGood (t .b) ≡ true) �
 unfolding lossOf
 figure-is t r f h e = figure-injective (Loss (lossFigure t r)) f (sym (e ∙ rw (h .0, h .1)))
 
--- src/lines.rt:35:9
 loss-requires : tie.Need-loss-requires
 loss-requires c κs = search needs
 
--- src/lines.rt:37:22
 enum-known-f : tie.Need-enum-known-f
 enum-known-f c = search needs
 
--- src/lines.rt:38:34
 enum-told : tie.Need-enum-told
 enum-told c = search needs
 
--- src/lines.rt:31:1
 returns : tie.Need-returns
 returns c =
     let s = c .before .before .before .before in
     let e = figure-is (s .args .t) (s .args .r) _ (s .pre) (c .before .before .before .loss .ensures) ∙ c .before .f .given .1 in
     cc
 
--- src/lines.rt:31:1
 returns-2 : tie.Need-returns-2
 returns-2 c =
     let s = c .before .before .before in

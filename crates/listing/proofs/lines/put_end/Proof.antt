@@ -1,43 +1,32 @@
+-- The word, the number of rectangles and the delay.
+-- Assumes nothing.
 use Rattle.listing.specs.Listing.{endLine}
 use Rattle.text.proofs.Puts.{put-then}
 use borrow.Author.Needs.{needs}
 use Rattle.listing.proofs.lines.put_end.Statement.{statement}
 use Rattle.listing.proofs.lines.put_end.Tie as tie
-use Rattle.listing.proofs.lines.put_end.Reads as reads
-use Rattle.listing.proofs.lines.put_end.Lts as lts
-use Rattle.layout.proofs.delay.Reads as delay-reads
-use Rattle.listing.proofs.cells.put_bytes.Reads as put-bytes-reads
-use Rattle.listing.proofs.cells.put_cell.Reads as put-cell-reads
 
--- src/lines.rt:79:32
 slice-aggregate-put-bytes : tie.Need-slice-aggregate-put-bytes
 slice-aggregate-put-bytes c = search needs
 
--- src/lines.rt:79:9
 put-bytes-requires : tie.Need-put-bytes-requires
 put-bytes-requires c κs = search needs
 
--- src/lines.rt:80:9
 put-cell-requires : tie.Need-put-cell-requires
 put-cell-requires c κs = search needs
 
--- src/lines.rt:81:22
 delay-requires : tie.Need-delay-requires
 delay-requires c κs = search needs
 
--- src/lines.rt:81:22
 cast-put-cell : tie.Need-cast-put-cell
 cast-put-cell c = search needs
 
--- src/lines.rt:81:5
 put-cell-requires-2 : tie.Need-put-cell-requires-2
 put-cell-requires-2 c κs = search needs
 
--- src/lines.rt:75:1
 same-length : tie.Need-same-length
 same-length c = search needs
 
--- src/lines.rt:75:1
 returns : tie.Need-returns
 unfolding endLine
 returns c =

@@ -1,3 +1,5 @@
+-- The seven figures of a rectangle, three, three and one.
+-- Assumes nothing.
 use Rattle.listing.specs.Listing.{rectLine}
 use Rattle.layout.specs.Contents.{rect}
 use mir.Val.{SFits}
@@ -8,77 +10,52 @@ use native.Mathlib.Omega.{arith}
 use borrow.Author.Needs.{needs}
 use Rattle.listing.proofs.lines.put_rect.Statement.{statement}
 use Rattle.listing.proofs.lines.put_rect.Tie as tie
-use Rattle.listing.proofs.lines.put_rect.Reads as reads
-use Rattle.listing.proofs.lines.put_rect.Lts as lts
-use Rattle.layout.proofs.column_word.Reads as column-word-reads
-use Rattle.layout.proofs.columns.Reads as columns-reads
-use Rattle.layout.proofs.rows.Reads as rows-reads
-use Rattle.layout.proofs.window_word.Reads as window-word-reads
-use Rattle.listing.proofs.lines.loss_of.Reads as loss-of-reads
-use Rattle.listing.proofs.cells.put_signed.Reads as put-signed-reads
-use Rattle.listing.proofs.cells.put_three.Reads as put-three-reads
 
--- src/lines.rt:48:13
 mul-r : tie.Need-mul-r
 mul-r c = search needs
 
--- src/lines.rt:48:13
 element-copy-out-r : tie.Need-element-copy-out-r
 element-copy-out-r c = search needs
 
--- src/lines.rt:49:13
 rows-requires : tie.Need-rows-requires
 rows-requires c κs = search needs
 
--- src/lines.rt:49:13
 cast-m : tie.Need-cast-m
 cast-m c = search needs
 
--- src/lines.rt:50:13
 columns-requires : tie.Need-columns-requires
 columns-requires c κs = search needs
 
--- src/lines.rt:50:13
 cast-n : tie.Need-cast-n
 cast-n c = search needs
 
--- src/lines.rt:51:18
 column-word-requires : tie.Need-column-word-requires
 column-word-requires c κs = search needs
 
--- src/lines.rt:51:18
 cast-column : tie.Need-cast-column
 cast-column c = search needs
 
--- src/lines.rt:52:18
 window-word-requires : tie.Need-window-word-requires
 window-word-requires c κs = search needs
 
--- src/lines.rt:52:18
 cast-window : tie.Need-cast-window
 cast-window c = search needs
 
--- src/lines.rt:53:9
 loss-of-requires : tie.Need-loss-of-requires
 loss-of-requires c κs = search needs
 
--- src/lines.rt:54:9
 put-three-requires : tie.Need-put-three-requires
 put-three-requires c κs = search needs
 
--- src/lines.rt:55:9
 put-three-requires-2 : tie.Need-put-three-requires-2
 put-three-requires-2 c κs = search needs
 
--- src/lines.rt:56:5
 put-signed-requires : tie.Need-put-signed-requires
 put-signed-requires c κs = search needs
 
--- src/lines.rt:42:1
 same-length : tie.Need-same-length
 same-length c = search needs
 
--- src/lines.rt:42:1
 returns : tie.Need-returns
 unfolding rectLine
 returns c =

@@ -1,3 +1,5 @@
+-- Rectangle after rectangle is put.
+-- Assumes nothing.
 use denote.Ref.{now}
 use Rattle.text.proofs.Puts.{kept, put-none, put-then}
 use Rattle.listing.specs.Listing.{rectLine, rectLines}
@@ -10,9 +12,6 @@ use Prim.Native.Nat.{ℕ, _+_, _-_, _*_, _≤_}
 use borrow.Author.Needs.{needs}
 use Rattle.listing.proofs.lines.put_rects.Statement.{statement}
 use Rattle.listing.proofs.lines.put_rects.Tie as tie
-use Rattle.listing.proofs.lines.put_rects.Reads as reads
-use Rattle.listing.proofs.lines.put_rects.Lts as lts
-use Rattle.listing.proofs.lines.put_rect.Reads as put-rect-reads
 
 abbrev Inv-loop : tie.InvT-loop
 Inv-loop out₀ at t n a₀ k₀ out a k = (k ≤ n) × Put out₀ at (rectLines t k) out a × (a ≤ at + 148 * k)
@@ -20,14 +19,12 @@ Inv-loop out₀ at t n a₀ k₀ out a k = (k ≤ n) × Put out₀ at (rectLines
 abbrev μ-loop : tie.MeasureT-loop
 μ-loop out₀ at t n a₀ k₀ out a k = n - k
 
--- src/lines.rt:68:5
 loop-holds : tie.Need-loop-holds Inv-loop μ-loop
 unfolding rectLines
 loop-holds c =
     let p = c .before .pre .1 .1 in
     (search needs, put-none _ _ (omega arith), omega arith)
 
--- src/lines.rt:69:9
 put-rect-requires : tie.Need-put-rect-requires Inv-loop μ-loop
 put-rect-requires c κs =
     let i = c .before .before .loop .inv in
@@ -36,15 +33,12 @@ put-rect-requires c κs =
     let q = p .1 in
     (p .0, (omega arith, omega arith))
 
--- src/lines.rt:70:9
 add-k : tie.Need-add-k Inv-loop μ-loop
 add-k c = search needs
 
--- src/lines.rt:68:5
 loop-less : tie.Need-loop-less Inv-loop μ-loop
 loop-less c = search needs
 
--- src/lines.rt:68:5
 loop-again : tie.Need-loop-again Inv-loop μ-loop
 unfolding rectLines
 loop-again c =
@@ -52,11 +46,9 @@ loop-again c =
     let p = c .before .before .put-rect .ensures in
     (omega arith, rw add-one (put-then (i .1) (p .0)), omega arith)
 
--- src/lines.rt:59:1
 same-length : tie.Need-same-length Inv-loop μ-loop
 same-length c = kept (c .before .loop .inv .1)
 
--- src/lines.rt:59:1
 returns : tie.Need-returns Inv-loop μ-loop
 returns c =
     let s = c .before in

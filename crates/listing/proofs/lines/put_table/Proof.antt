@@ -1,31 +1,23 @@
+-- Head, rectangles and end, one after the other.
+-- Assumes nothing.
 use Rattle.text.proofs.Puts.{put-then}
 use Rattle.listing.specs.Listing.{tableLines}
 use borrow.Author.Needs.{needs}
 use Rattle.listing.proofs.lines.put_table.Statement.{statement}
 use Rattle.listing.proofs.lines.put_table.Tie as tie
-use Rattle.listing.proofs.lines.put_table.Reads as reads
-use Rattle.listing.proofs.lines.put_table.Lts as lts
-use Rattle.listing.proofs.lines.put_end.Reads as put-end-reads
-use Rattle.listing.proofs.lines.put_head.Reads as put-head-reads
-use Rattle.listing.proofs.lines.put_rects.Reads as put-rects-reads
 
--- src/lines.rt:97:9
 put-head-requires : tie.Need-put-head-requires
 put-head-requires c κs = search needs
 
--- src/lines.rt:98:9
 put-rects-requires : tie.Need-put-rects-requires
 put-rects-requires c κs = search needs
 
--- src/lines.rt:99:5
 put-end-requires : tie.Need-put-end-requires
 put-end-requires c κs = search needs
 
--- src/lines.rt:92:1
 same-length : tie.Need-same-length
 same-length c = search needs
 
--- src/lines.rt:92:1
 returns : tie.Need-returns
 unfolding tableLines
 returns c = put-then (put-then (c .before .before .before .before .before .before .before .before .before .before .put-head .ensures .0) (c .before .before .before .before .before .before .put-rects .ensures .0)) (c .before .before .put-end .ensures)

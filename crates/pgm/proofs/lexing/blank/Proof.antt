@@ -1,22 +1,18 @@
+-- White space is 9 to 13 and 32.
+-- Assumes nothing.
 use mathlib.Core.Path.{_≡_, refl, sym, ap, _∙_}
 use Rattle.pgm.specs.Grammar.{blank}
 use borrow.Author.Needs.{needs}
 use Rattle.pgm.proofs.lexing.blank.Statement.{statement}
 use Rattle.pgm.proofs.lexing.blank.Tie as tie
-use Rattle.pgm.proofs.lexing.blank.Reads as reads
-use Rattle.pgm.proofs.lexing.blank.Lts as lts
-use Rattle.pgm.proofs.lexing.within.Reads as within-reads
 
--- src/lexing.rt:18:8
 within-requires : tie.Need-within-requires
 within-requires c κs = search needs
 
--- src/lexing.rt:19:9
 returns : tie.Need-returns
 unfolding blank
 returns c = rw (sym (c .before .within .ensures) ∙ c .if1 .taken)
 
--- src/lexing.rt:15:1
 returns-2 : tie.Need-returns-2
 unfolding blank
 returns-2 c = rw (sym (c .before .within .ensures) ∙ c .if1 .left)

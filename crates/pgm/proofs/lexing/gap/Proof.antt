@@ -1,3 +1,5 @@
+-- A look at each byte: what is left of the gap is the same, one byte shorter.
+-- Assumes nothing.
 use borrow.Author.Tests.{not-true, not-false}
 use Rattle.pgm.proofs.Tokens.{gap-on, gap-ends, gap-none}
 use native.Mathlib.Numerals.{add-one}
@@ -13,10 +15,6 @@ use native.Mathlib.Omega.{arith}
 use borrow.Author.Needs.{needs}
 use Rattle.pgm.proofs.lexing.gap.Statement.{statement}
 use Rattle.pgm.proofs.lexing.gap.Tie as tie
-use Rattle.pgm.proofs.lexing.gap.Reads as reads
-use Rattle.pgm.proofs.lexing.gap.Lts as lts
-use Rattle.pgm.proofs.lexing.in_comment.Reads as in-comment-reads
-use Rattle.pgm.proofs.lexing.in_gap.Reads as in-gap-reads
 
 abbrev Inv-loop : tie.InvT-loop
 Inv-loop bytes at comment₀ i₀ comment i = i + gap comment (drop i bytes) ≡ at + gap false (drop at bytes)
@@ -24,19 +22,15 @@ Inv-loop bytes at comment₀ i₀ comment i = i + gap comment (drop i bytes) ≡
 abbrev μ-loop : tie.MeasureT-loop
 μ-loop bytes at comment₀ i₀ comment i = length bytes - i
 
--- src/lexing.rt:57:5
 loop-holds : tie.Need-loop-holds Inv-loop μ-loop
 loop-holds c = refl
 
--- src/lexing.rt:58:17
 shared-slice-read-b : tie.Need-shared-slice-read-b Inv-loop μ-loop
 shared-slice-read-b c = search needs
 
--- src/lexing.rt:59:13
 in-gap-requires : tie.Need-in-gap-requires Inv-loop μ-loop
 in-gap-requires c κs = search needs
 
--- src/lexing.rt:60:13
 returns : tie.Need-returns Inv-loop μ-loop
 returns c =
     let l = c .before .before .before .before in
@@ -46,19 +40,15 @@ returns c =
     let v = l .loop .inv in
     omega arith
 
--- src/lexing.rt:62:9
 in-comment-requires : tie.Need-in-comment-requires Inv-loop μ-loop
 in-comment-requires c κs = search needs
 
--- src/lexing.rt:63:9
 add-i : tie.Need-add-i Inv-loop μ-loop
 add-i c = search needs
 
--- src/lexing.rt:57:5
 loop-less : tie.Need-loop-less Inv-loop μ-loop
 loop-less c = omega arith
 
--- src/lexing.rt:57:5
 loop-again : tie.Need-loop-again Inv-loop μ-loop
 loop-again c =
     let l = c .before .before .before .before .before in
@@ -68,7 +58,6 @@ loop-again c =
     let v = l .loop .inv in
     rw (add-one, c .in-comment .ensures) (omega arith)
 
--- src/lexing.rt:52:1
 returns-2 : tie.Need-returns-2 Inv-loop μ-loop
 returns-2 c =
     let l = c .before in

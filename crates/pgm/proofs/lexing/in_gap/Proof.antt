@@ -1,27 +1,22 @@
+-- Within a comment every byte counts; outside one, white space and the # do.
+-- Assumes nothing.
 use mathlib.Core.Path.{_≡_, refl, sym, ap, _∙_}
 use Rattle.pgm.specs.Grammar.{inGap}
 use borrow.Author.Needs.{needs}
 use Rattle.pgm.proofs.lexing.in_gap.Statement.{statement}
 use Rattle.pgm.proofs.lexing.in_gap.Tie as tie
-use Rattle.pgm.proofs.lexing.in_gap.Reads as reads
-use Rattle.pgm.proofs.lexing.in_gap.Lts as lts
-use Rattle.pgm.proofs.lexing.blank.Reads as blank-reads
 
--- src/lexing.rt:41:9
 returns : tie.Need-returns
 unfolding inGap
 returns c = rw (c .if1 .taken)
 
--- src/lexing.rt:43:8
 blank-requires : tie.Need-blank-requires
 blank-requires c κs = search needs
 
--- src/lexing.rt:44:9
 returns-2 : tie.Need-returns-2
 unfolding inGap
 returns-2 c = rw (c .before .before .if1 .left, sym (c .before .blank .ensures) ∙ c .if2 .taken)
 
--- src/lexing.rt:37:1
 returns-3 : tie.Need-returns-3
 unfolding inGap
 returns-3 c = rw (c .before .before .if1 .left, sym (c .before .blank .ensures) ∙ c .if2 .left)

@@ -1,17 +1,15 @@
+-- A line ends with 10 or 13.
+-- Assumes nothing.
 use Rattle.pgm.specs.Grammar.{lineEnd}
 use borrow.Author.Tests.{le-leb, lt-leb, eq-eqb, ne-eqb}
 use borrow.Author.Needs.{needs}
 use Rattle.pgm.proofs.lexing.line_end.Statement.{statement}
 use Rattle.pgm.proofs.lexing.line_end.Tie as tie
-use Rattle.pgm.proofs.lexing.line_end.Reads as reads
-use Rattle.pgm.proofs.lexing.line_end.Lts as lts
 
--- src/lexing.rt:24:1
 returns : tie.Need-returns
 unfolding lineEnd
 returns c = rw (eq-eqb _ _ (c .if1 .taken))
 
--- src/lexing.rt:24:1
 returns-2 : tie.Need-returns-2
 unfolding lineEnd
 returns-2 c = rw (ne-eqb _ _ (c .if1 .left))

@@ -1,3 +1,5 @@
+-- A look at each byte: what the digits so far spell, carried on over the rest, is the same number.
+-- Assumes nothing.
 use borrow.Author.Tests.{not-true, not-false}
 use Rattle.pgm.proofs.Tokens.{digit-from}
 use Rattle.pgm.proofs.Tokens.{number-on, number-ends, number-none, capped}
@@ -11,10 +13,6 @@ use mathlib.Core.Path.{_≡_, refl, sym, ap, _∙_}
 use borrow.Author.Needs.{needs}
 use Rattle.pgm.proofs.lexing.number.Statement.{statement}
 use Rattle.pgm.proofs.lexing.number.Tie as tie
-use Rattle.pgm.proofs.lexing.number.Reads as reads
-use Rattle.pgm.proofs.lexing.number.Lts as lts
-use Rattle.pgm.proofs.lexing.digit.Reads as digit-reads
-use Rattle.pgm.proofs.lexing.next.Reads as next-reads
 
 abbrev Inv-loop : tie.InvT-loop
 Inv-loop bytes at value₀ i₀ value i =
@@ -24,19 +22,15 @@ Inv-loop bytes at value₀ i₀ value i =
 abbrev μ-loop : tie.MeasureT-loop
 μ-loop bytes at value₀ i₀ value i = length bytes - i
 
--- src/lexing.rt:90:5
 loop-holds : tie.Need-loop-holds Inv-loop μ-loop
 loop-holds c = (omega arith, refl, refl)
 
--- src/lexing.rt:91:17
 shared-slice-read-b : tie.Need-shared-slice-read-b Inv-loop μ-loop
 shared-slice-read-b c = search needs
 
--- src/lexing.rt:92:13
 digit-requires : tie.Need-digit-requires Inv-loop μ-loop
 digit-requires c κs = search needs
 
--- src/lexing.rt:93:13
 returns : tie.Need-returns Inv-loop μ-loop
 returns c =
     let l = c .before .before .before .before in
@@ -49,21 +43,17 @@ returns c =
     let z = rw (g .1) at (v .2) in
     (omega arith, omega arith)
 
--- src/lexing.rt:95:9
 next-requires : tie.Need-next-requires Inv-loop μ-loop
 next-requires c κs =
     let l = c .before .before .before .before in
     (l .loop .inv .0, digit-from _ (sym (c .before .digit .ensures) ∙ not-false _ (c .if1 .left)))
 
--- src/lexing.rt:96:9
 add-i : tie.Need-add-i Inv-loop μ-loop
 add-i c = search needs
 
--- src/lexing.rt:90:5
 loop-less : tie.Need-loop-less Inv-loop μ-loop
 loop-less c = omega arith
 
--- src/lexing.rt:90:5
 loop-again : tie.Need-loop-again Inv-loop μ-loop
 loop-again c =
     let l = c .before .before .before .before .before in
@@ -80,7 +70,6 @@ loop-again c =
       rw add-one (omega arith),
     )
 
--- src/lexing.rt:84:1
 returns-2 : tie.Need-returns-2 Inv-loop μ-loop
 returns-2 c =
     let l = c .before in

@@ -1,3 +1,5 @@
+-- By the byte after the maxval.
+-- Assumes nothing.
 use borrow.Author.Tests.{le-leb, lt-leb, eq-eqb, ne-eqb, not-true, not-false}
 use Rattle.pgm.specs.Grammar.{ended}
 use borrow.Author.Tests.{le-leb, lt-leb, eq-eqb, ne-eqb}
@@ -5,33 +7,24 @@ use mathlib.Core.Path.{_≡_, refl, sym, ap, _∙_}
 use borrow.Author.Needs.{needs}
 use Rattle.pgm.proofs.parsing.ended.Statement.{statement}
 use Rattle.pgm.proofs.parsing.ended.Tie as tie
-use Rattle.pgm.proofs.parsing.ended.Reads as reads
-use Rattle.pgm.proofs.parsing.ended.Lts as lts
-use Rattle.pgm.proofs.lexing.blank.Reads as blank-reads
 
--- src/parsing.rt:41:9
 returns : tie.Need-returns
 unfolding ended
 returns c = rw (le-leb _ _ (c .if1 .taken))
 
--- src/parsing.rt:43:15
 shared-slice-read-blank : tie.Need-shared-slice-read-blank
 shared-slice-read-blank c = search needs
 
--- src/parsing.rt:43:9
 blank-requires : tie.Need-blank-requires
 blank-requires c κs = search needs
 
--- src/parsing.rt:44:9
 returns-2 : tie.Need-returns-2
 unfolding ended
 returns-2 c = rw (lt-leb _ _ (c .before .before .before .if1 .left), sym (c .before .blank .ensures) ∙ not-true _ (c .if2 .taken))
 
--- src/parsing.rt:46:43
 add-t6 : tie.Need-add-t6
 add-t6 c = search needs
 
--- src/parsing.rt:37:1
 returns-3 : tie.Need-returns-3
 unfolding ended
 returns-3 c = rw (lt-leb _ _ (c .before .before .before .if1 .left), sym (c .before .blank .ensures) ∙ not-false _ (c .if2 .left))

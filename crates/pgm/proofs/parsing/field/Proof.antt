@@ -1,3 +1,5 @@
+-- The definition's questions, in its order.
+-- Assumes nothing.
 use borrow.Author.Tests.{le-leb, lt-leb, eq-eqb, ne-eqb, not-true, not-false}
 use mathlib.Core.Path.{_≡_, refl, sym, ap, _∙_}
 use denote.Ref.{now}
@@ -5,24 +7,16 @@ use Rattle.pgm.proofs.Tokens.{field-more, field-is}
 use borrow.Author.Needs.{needs}
 use Rattle.pgm.proofs.parsing.field.Statement.{statement}
 use Rattle.pgm.proofs.parsing.field.Tie as tie
-use Rattle.pgm.proofs.parsing.field.Reads as reads
-use Rattle.pgm.proofs.parsing.field.Lts as lts
-use Rattle.pgm.proofs.lexing.gap.Reads as gap-reads
-use Rattle.pgm.proofs.lexing.number.Reads as number-reads
 
--- src/parsing.rt:22:9
 gap-requires : tie.Need-gap-requires
 gap-requires c κs = search needs
 
--- src/parsing.rt:24:9
 returns : tie.Need-returns
 returns c = let a = c .before .before .before .args in rw (field-more (a .k) (now (a .bytes)) (a .at) _ (c .before .gap .ensures) (c .if1 .taken))
 
--- src/parsing.rt:26:9
 number-requires : tie.Need-number-requires
 number-requires c κs = search needs
 
--- src/parsing.rt:28:9
 returns-2 : tie.Need-returns-2
 returns-2 c =
     let s = c .before .before .before in
@@ -34,7 +28,6 @@ returns-2 c =
       eq-eqb _ _ (c .if2 .taken),
     )
 
--- src/parsing.rt:31:9
 returns-3 : tie.Need-returns-3
 returns-3 c =
     let u = c .before .before in
@@ -48,7 +41,6 @@ returns-3 c =
       le-leb _ _ (c .if3 .taken),
     )
 
--- src/parsing.rt:19:1
 returns-4 : tie.Need-returns-4
 returns-4 c =
     let u = c .before .before in

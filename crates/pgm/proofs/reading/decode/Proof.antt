@@ -1,3 +1,5 @@
+-- By the bytes that a sample takes.
+-- Assumes nothing.
 use denote.Ref.{now}
 use native.Mathlib.Omega.{arith}
 use lib.ListN.{length}
@@ -8,25 +10,16 @@ use Rattle.pgm.specs.Raster.{decodedCount, decoded, sampleBytes, sampleI
 use borrow.Author.Needs.{needs}
 use Rattle.pgm.proofs.reading.decode.Statement.{statement}
 use Rattle.pgm.proofs.reading.decode.Tie as tie
-use Rattle.pgm.proofs.reading.decode.Reads as reads
-use Rattle.pgm.proofs.reading.decode.Lts as lts
-use Rattle.arith.proofs.least.Reads as least-reads
-use Rattle.pgm.proofs.reading.decode_bytes.Reads as decode-bytes-reads
-use Rattle.pgm.proofs.reading.decode_words.Reads as decode-words-reads
 
--- src/reading.rt:54:13
 least-requires : tie.Need-least-requires
 least-requires c κs = search needs
 
--- src/reading.rt:55:9
 decode-bytes-requires : tie.Need-decode-bytes-requires
 decode-bytes-requires c κs = search needs
 
--- src/reading.rt:56:9
 same-length : tie.Need-same-length
 same-length c = search needs
 
--- src/reading.rt:56:9
 returns : tie.Need-returns
 unfolding decodedCount decoded sampleBytes sampleIn
 returns c =
@@ -36,19 +29,15 @@ returns c =
     let n : s .least .result ≡ min (length (now (a .bytes)) / 1) (length (now (a .out))) = omega arith in
     rw (le-leb _ _ (s .before .if1 .taken), ← n) (refl, c .before .before .decode-bytes .ensures)
 
--- src/reading.rt:58:9
 least-requires-2 : tie.Need-least-requires-2
 least-requires-2 c κs = search needs
 
--- src/reading.rt:59:5
 decode-words-requires : tie.Need-decode-words-requires
 decode-words-requires c κs = search needs
 
--- src/reading.rt:49:1
 same-length-2 : tie.Need-same-length-2
 same-length-2 c = search needs
 
--- src/reading.rt:49:1
 returns-2 : tie.Need-returns-2
 unfolding decodedCount decoded sampleBytes sampleIn
 returns-2 c =

@@ -1,3 +1,5 @@
+-- As many pixels as there are places for.
+-- Assumes nothing.
 use borrow.Author.Tests.{le-leb, lt-leb, eq-eqb, ne-eqb, not-true, not-false}
 use mathlib.Core.Path.{_≡_, refl, sym, ap, _∙_}
 use native.Mathlib.Omega.{arith}
@@ -6,37 +8,26 @@ use Rattle.pgm.specs.Shade.{encodedCount, encoded}
 use borrow.Author.Needs.{needs}
 use Rattle.pgm.proofs.shades.encode.Statement.{statement}
 use Rattle.pgm.proofs.shades.encode.Tie as tie
-use Rattle.pgm.proofs.shades.encode.Reads as reads
-use Rattle.pgm.proofs.shades.encode.Lts as lts
-use Rattle.arith.proofs.least.Reads as least-reads
-use Rattle.pgm.proofs.shades.put.Reads as put-reads
-use Rattle.pgm.proofs.shades.word_good.Reads as word-good-reads
 
--- src/shades.rt:63:9
 word-good-requires : tie.Need-word-good-requires
 word-good-requires c κs = search needs
 
--- src/shades.rt:64:9
 returns : tie.Need-returns
 unfolding encodedCount encoded grid
 returns c = rw (sym (c .before .word-good .ensures) ∙ not-true _ (c .if1 .taken)) (refl, (refl, omega arith))
 
--- src/shades.rt:66:9
 least-requires : tie.Need-least-requires
 least-requires c κs = search needs
 
--- src/shades.rt:67:5
 put-requires : tie.Need-put-requires
 put-requires c κs =
     let e = c .before .least .ensures in
     let w = sym (c .before .before .before .word-good .ensures) ∙ not-false _ (c .before .before .if1 .left) in
     (w, omega arith, omega arith)
 
--- src/shades.rt:59:1
 same-length : tie.Need-same-length
 same-length c = search needs
 
--- src/shades.rt:59:1
 returns-2 : tie.Need-returns-2
 unfolding encodedCount encoded
 returns-2 c =

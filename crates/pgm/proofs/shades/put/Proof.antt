@@ -1,3 +1,5 @@
+-- Pixel after pixel is put, two bytes each.
+-- Assumes nothing.
 use mir.Facts.{toZ-ofZ}
 use mir.Syntax.{w32}
 use mir.Val.{SFits}
@@ -18,11 +20,6 @@ use mathlib.Core.Bool.{true}
 use borrow.Author.Needs.{needs}
 use Rattle.pgm.proofs.shades.put.Statement.{statement}
 use Rattle.pgm.proofs.shades.put.Tie as tie
-use Rattle.pgm.proofs.shades.put.Reads as reads
-use Rattle.pgm.proofs.shades.put.Lts as lts
-use Rattle.arith.proofs.power.Reads as power-reads
-use Rattle.pgm.proofs.shades.excess.Reads as excess-reads
-use Rattle.pgm.proofs.shades.shade.Reads as shade-reads
 
 -- the bytes of pixel k
 abbrev bytes : (w : ℕ) → List ℤ → ℕ → ℕ → ℕ
@@ -36,15 +33,12 @@ Inv-loop pixels w n out₀ floor low k₀ out k =
 abbrev μ-loop : tie.MeasureT-loop
 μ-loop pixels w n out₀ floor low k₀ out k = n - k
 
--- src/shades.rt:44:37
 sub-power : tie.Need-sub-power Inv-loop μ-loop
 sub-power c = let r = word-range _ (c .before .pre .0) .0 in omega arith
 
--- src/shades.rt:44:31
 power-requires : tie.Need-power-requires Inv-loop μ-loop
 power-requires c κs = search needs
 
--- src/shades.rt:44:18
 sub-floor : tie.Need-sub-floor Inv-loop μ-loop
 sub-floor c =
     let s = c .before .before in
@@ -55,15 +49,12 @@ sub-floor c =
     let m : 2 ^ (s .args .w - 1) ≤ 2 ^ 31 = pow-mono {j = 31} (omega arith) in
     omega arith
 
--- src/shades.rt:44:17
 cast-floor : tie.Need-cast-floor Inv-loop μ-loop
 cast-floor c = search needs
 
--- src/shades.rt:45:9
 excess-requires : tie.Need-excess-requires Inv-loop μ-loop
 excess-requires c κs = search needs
 
--- src/shades.rt:47:5
 loop-holds : tie.Need-loop-holds Inv-loop μ-loop
 loop-holds c =
     let s = c .before .before .before in
@@ -75,51 +66,39 @@ loop-holds c =
     let m : 2 ^ (a .w - 1) ≤ 2 ^ 31 = pow-mono {j = 31} (omega arith) in
     (search needs, grid-none 2 (bytes (a .w) (now (a .pixels))) (now (a .out)), refl, s .pre .2, s .pre .1, omega arith, c .excess .ensures, l)
 
--- src/shades.rt:48:23
 mul-shade : tie.Need-mul-shade Inv-loop μ-loop
 mul-shade c = search needs
 
--- src/shades.rt:48:23
 shared-slice-copy-out-shade : tie.Need-shared-slice-copy-out-shade Inv-loop μ-loop
 shared-slice-copy-out-shade c = search needs
 
--- src/shades.rt:48:13
 shade-requires : tie.Need-shade-requires Inv-loop μ-loop
 shade-requires c κs = search needs
 
--- src/shades.rt:49:17
 mul-p : tie.Need-mul-p Inv-loop μ-loop
 mul-p c = search needs
 
--- src/shades.rt:50:17
 add-q : tie.Need-add-q Inv-loop μ-loop
 add-q c = search needs
 
--- src/shades.rt:51:18
 cast-out : tie.Need-cast-out Inv-loop μ-loop
 cast-out c = search needs
 
--- src/shades.rt:51:9
 slice-write-out : tie.Need-slice-write-out Inv-loop μ-loop
 slice-write-out c = search needs
 
--- src/shades.rt:52:18
 cast-out-2 : tie.Need-cast-out-2 Inv-loop μ-loop
 cast-out-2 c = search needs
 
--- src/shades.rt:52:9
 slice-write-out-2 : tie.Need-slice-write-out-2 Inv-loop μ-loop
 slice-write-out-2 c = let i = c .before .before .before .loop .inv in let x = i .2 in let y = i .3 in simp length-set (omega arith)
 
--- src/shades.rt:53:9
 add-k : tie.Need-add-k Inv-loop μ-loop
 add-k c = search needs
 
--- src/shades.rt:47:5
 loop-less : tie.Need-loop-less Inv-loop μ-loop
 loop-less c = omega arith
 
--- src/shades.rt:47:5
 loop-again : tie.Need-loop-again Inv-loop μ-loop
 unfolding byteOf
 loop-again c =
@@ -143,11 +122,9 @@ loop-again c =
       i .7,
     )
 
--- src/shades.rt:40:1
 same-length : tie.Need-same-length Inv-loop μ-loop
 same-length c = c .before .loop .inv .2
 
--- src/shades.rt:40:1
 returns : tie.Need-returns Inv-loop μ-loop
 returns c =
     let l = c .before in

@@ -1,3 +1,5 @@
+-- The four parts are put one after the other, and there is room for them.
+-- Assumes nothing.
 use lib.ListN.{length}
 use mathlib.Core.Path.{_≡_}
 use native.Mathlib.Omega.{arith}
@@ -8,32 +10,22 @@ use Rattle.pgm.specs.Text.{headText}
 use borrow.Author.Needs.{needs}
 use Rattle.pgm.proofs.writing.head.Statement.{statement}
 use Rattle.pgm.proofs.writing.head.Tie as tie
-use Rattle.pgm.proofs.writing.head.Reads as reads
-use Rattle.pgm.proofs.writing.head.Lts as lts
-use Rattle.text.proofs.put_bytes.Reads as put-bytes-reads
-use Rattle.text.proofs.put_cell.Reads as put-cell-reads
 
--- src/writing.rt:18:31
 slice-aggregate-put-bytes : tie.Need-slice-aggregate-put-bytes
 slice-aggregate-put-bytes c = search needs
 
--- src/writing.rt:18:9
 put-bytes-requires : tie.Need-put-bytes-requires
 put-bytes-requires c κs = search needs
 
--- src/writing.rt:19:9
 put-cell-requires : tie.Need-put-cell-requires
 put-cell-requires c κs = search needs
 
--- src/writing.rt:20:9
 put-cell-requires-2 : tie.Need-put-cell-requires-2
 put-cell-requires-2 c κs = search needs
 
--- src/writing.rt:21:5
 put-cell-requires-3 : tie.Need-put-cell-requires-3
 put-cell-requires-3 c κs = search needs
 
--- src/writing.rt:13:1
 returns : tie.Need-returns
 unfolding headText
 returns c =

@@ -1,3 +1,5 @@
+-- By whether there is room.
+-- Assumes nothing.
 use borrow.Author.Tests.{le-leb, lt-leb}
 use native.Mathlib.Omega.{arith}
 use mathlib.Core.Path.{_≡_, refl}
@@ -9,11 +11,7 @@ use Rattle.pgm.specs.Text.{lineCount, lineOut}
 use borrow.Author.Needs.{needs}
 use Rattle.pgm.proofs.writing.line.Statement.{statement}
 use Rattle.pgm.proofs.writing.line.Tie as tie
-use Rattle.pgm.proofs.writing.line.Reads as reads
-use Rattle.pgm.proofs.writing.line.Lts as lts
-use Rattle.pgm.proofs.writing.put_line.Reads as put-line-reads
 
--- src/writing.rt:54:9
 returns : tie.Need-returns
 unfolding lineCount lineOut
 returns c =
@@ -21,15 +19,12 @@ returns c =
     let h : length (now (a .out)) < 22 * length (now (a .pixels)) = omega arith in
     rw (lt-leb _ _ h) (refl, (refl, omega arith))
 
--- src/writing.rt:56:5
 put-line-requires : tie.Need-put-line-requires
 put-line-requires c κs = search needs
 
--- src/writing.rt:49:1
 same-length : tie.Need-same-length
 same-length c = search needs
 
--- src/writing.rt:49:1
 returns-2 : tie.Need-returns-2
 unfolding lineCount lineOut
 returns-2 c =

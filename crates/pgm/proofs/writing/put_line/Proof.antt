@@ -1,3 +1,5 @@
+-- Pixel after pixel is put: what stands is the line's first cells.
+-- Assumes nothing.
 use mir.Facts.{toZ-ofZ}
 use mir.Syntax.{w32}
 use mir.Val.{SFits}
@@ -17,10 +19,6 @@ use Rattle.pgm.specs.Text.{cells, lineText}
 use borrow.Author.Needs.{needs}
 use Rattle.pgm.proofs.writing.put_line.Statement.{statement}
 use Rattle.pgm.proofs.writing.put_line.Tie as tie
-use Rattle.pgm.proofs.writing.put_line.Reads as reads
-use Rattle.pgm.proofs.writing.put_line.Lts as lts
-use Rattle.pgm.proofs.writing.after.Reads as after-reads
-use Rattle.text.proofs.put_signed.Reads as put-signed-reads
 
 abbrev Inv-loop : tie.InvT-loop
 Inv-loop pixels out₀ n at₀ k₀ out at k =
@@ -29,38 +27,30 @@ Inv-loop pixels out₀ n at₀ k₀ out at k =
 abbrev μ-loop : tie.MeasureT-loop
 μ-loop pixels out₀ n at₀ k₀ out at k = n - k
 
--- src/writing.rt:39:5
 loop-holds : tie.Need-loop-holds Inv-loop μ-loop
 unfolding cells
 loop-holds c =
     let s = c .before in
     (search needs, put-none (now (s .args .out)) 0 (omega arith), omega arith, s .pre, refl)
 
--- src/writing.rt:40:20
 add-next : tie.Need-add-next Inv-loop μ-loop
 add-next c = search needs
 
--- src/writing.rt:41:34
 mul-put-signed : tie.Need-mul-put-signed Inv-loop μ-loop
 mul-put-signed c = search needs
 
--- src/writing.rt:41:34
 shared-slice-copy-out-put-signed : tie.Need-shared-slice-copy-out-put-signed Inv-loop μ-loop
 shared-slice-copy-out-put-signed c = search needs
 
--- src/writing.rt:41:45
 after-requires : tie.Need-after-requires Inv-loop μ-loop
 after-requires c κs = search needs
 
--- src/writing.rt:41:9
 put-signed-requires : tie.Need-put-signed-requires Inv-loop μ-loop
 put-signed-requires c κs = search needs
 
--- src/writing.rt:39:5
 loop-less : tie.Need-loop-less Inv-loop μ-loop
 loop-less c = omega arith
 
--- src/writing.rt:39:5
 loop-again : tie.Need-loop-again Inv-loop μ-loop
 unfolding cells
 loop-again c =
@@ -81,11 +71,9 @@ loop-again c =
     let z = p .next-is in
     (search needs, rw (add-one k) (put-then (i .1) p), omega arith, i .3, refl)
 
--- src/writing.rt:32:1
 same-length : tie.Need-same-length Inv-loop μ-loop
 same-length c = kept (c .before .loop .inv .1)
 
--- src/writing.rt:32:1
 returns : tie.Need-returns Inv-loop μ-loop
 unfolding lineText
 returns c =

@@ -1,128 +1,110 @@
-use native.Mathlib.Nat.{mul-le-mul, le-refl}
-use denote.Ref.{now}
-use Prim.Native.Nat.{ℕ, _+_, _-_, _*_, _≤_, _<_}
-use mathlib.Core.Path.{_≡_}
-use lib.ListN.{length}
+-- What is decoded, and of that the whole rows before the first sample that is too large, are within the store.
+-- Assumes nothing.
 use native.Mathlib.Omega.{arith}
+use mathlib.Core.Path.{_≡_, sym}
+use lib.Seq.{length-take-le}
+use Rattle.stripfilter.proofs.Bounds.{decoded-in, first-in, whole-in}
 use borrow.Author.Needs.{needs}
 use Rattle.stripfilter.proofs.rows.some_rows.Statement.{statement}
 use Rattle.stripfilter.proofs.rows.some_rows.Tie as tie
-use Rattle.stripfilter.proofs.rows.some_rows.Reads as reads
-use Rattle.stripfilter.proofs.rows.some_rows.Lts as lts
-use Rattle.stripfilter.proofs.rows.one_row.Reads as one-row-reads
-use Rattle.stripfilter.proofs.rows.turned.Reads as turned-reads
 
-abbrev Inv-loop : tie.InvT-loop
-Inv-loop job bytes need n samples₀ sums₀ page₀ t₀ k₀ samples sums page t k =
-    (job .width ≤ 1024) × (n * need ≤ length bytes) × (k ≤ n) × (t .used ≤ length page) × (length samples ≡ length samples₀)
-    × (length sums ≡ length sums₀) × (length page ≡ length page₀)
+slice-aggregate-decode : tie.Need-slice-aggregate-decode
+slice-aggregate-decode c = search needs
 
-abbrev μ-loop : tie.MeasureT-loop
-μ-loop job bytes need n samples₀ sums₀ page₀ t₀ k₀ samples sums page t k = n - k
+decode-requires : tie.Need-decode-requires
+decode-requires c κs = search needs
 
--- the end of row k
-row-end : (k n need l : ℕ) → k < n → n * need ≤ l → k * need + need ≤ l
-row-end k n need l h m =
-    let p : (k + 1) * need ≤ n * need = mul-le-mul (let q : k + 1 ≤ n = omega arith in q) (le-refl need) in omega arith
+array-share-prefix-space : tie.Need-array-share-prefix-space
+array-share-prefix-space c =
+    let g = c .before .decode in
+    let d = decoded-in _ _ _ _ (g .ensures .0) in
+    let k = g .kept .1 .1 .0 in
+    omega arith
 
--- src/rows.rt:122:9
-turned-requires : tie.Need-turned-requires Inv-loop μ-loop
-turned-requires c κs = search needs
+slice-aggregate-first-above : tie.Need-slice-aggregate-first-above
+slice-aggregate-first-above c =
+    let g = c .before .before .decode in
+    let d = decoded-in _ _ _ _ (g .ensures .0) in
+    let k = g .kept .1 .1 .0 in
+    sym (length-take-le _ _ (omega arith))
 
--- src/rows.rt:124:5
-loop-holds : tie.Need-loop-holds Inv-loop μ-loop
-loop-holds c = search needs
+cast-first-above : tie.Need-cast-first-above
+cast-first-above c = search needs
 
--- src/rows.rt:125:18
-mul-at : tie.Need-mul-at Inv-loop μ-loop
-mul-at c = let i = c .before .loop .inv in let h = row-end (c .before .loop .k) _ _ _ (c .loop-test .taken) (i .1) in search needs
+first-above-requires : tie.Need-first-above-requires
+first-above-requires c κs = search needs
 
--- src/rows.rt:130:24
-add-one-row : tie.Need-add-one-row Inv-loop μ-loop
-add-one-row c = let i = c .before .before .loop .inv in let h = row-end (c .before .before .loop .k) _ _ _ (c .before .loop-test .taken) (i .1) in search needs
+whole-part-requires : tie.Need-whole-part-requires
+whole-part-requires c κs = search needs
 
--- src/rows.rt:130:13
-sub-one-row : tie.Need-sub-one-row Inv-loop μ-loop
-sub-one-row c = search needs
+array-share-prefix-space-2 : tie.Need-array-share-prefix-space-2
+array-share-prefix-space-2 c =
+    let s = c in
+    let g = s .before .before .before .before .before .decode in
+    let d = decoded-in _ _ _ _ (g .ensures .0) in
+    let k = g .kept .1 .1 .0 in
+    let p = first-in _ _ _ (s .before .first-above .ensures) in
+    let w = whole-in _ _ _ (s .whole-part .ensures) in
+    let l = length-take-le (g .result) (g .last .1 .1 .0) (omega arith) in
+    omega arith
 
--- src/rows.rt:130:13
-part-one-row-start : tie.Need-part-one-row-start Inv-loop μ-loop
-part-one-row-start c = search needs
+slice-aggregate-rows : tie.Need-slice-aggregate-rows
+slice-aggregate-rows c =
+    let s = c .before in
+    let g = s .before .before .before .before .before .decode in
+    let d = decoded-in _ _ _ _ (g .ensures .0) in
+    let k = g .kept .1 .1 .0 in
+    let p = first-in _ _ _ (s .before .first-above .ensures) in
+    let w = whole-in _ _ _ (s .whole-part .ensures) in
+    let l = length-take-le (g .result) (g .last .1 .1 .0) (omega arith) in
+    sym (length-take-le _ _ (omega arith))
 
--- src/rows.rt:130:13
-part-one-row-end : tie.Need-part-one-row-end Inv-loop μ-loop
-part-one-row-end c = let i = c .before .before .loop .inv in let h = row-end (c .before .before .loop .k) _ _ _ (c .before .loop-test .taken) (i .1) in search needs
+slice-aggregate-rows-2 : tie.Need-slice-aggregate-rows-2
+slice-aggregate-rows-2 c = search needs
 
--- src/rows.rt:128:9
-one-row-requires : tie.Need-one-row-requires Inv-loop μ-loop
-one-row-requires c κs = search needs
+rows-requires : tie.Need-rows-requires
+rows-requires c κs = search needs
 
--- src/rows.rt:138:13
-same-length : tie.Need-same-length Inv-loop μ-loop
+slice-aggregate-rows-3 : tie.Need-slice-aggregate-rows-3
+slice-aggregate-rows-3 c = search needs
+
+rows-requires-2 : tie.Need-rows-requires-2
+rows-requires-2 c κs = c .before .before .before .before .before .before .before .before .before .before .before .before .before .before .before .before .before .before .before .before .before .before .pre
+
+row-fault-requires : tie.Need-row-fault-requires
+row-fault-requires c κs = search needs
+
+after-requires : tie.Need-after-requires
+after-requires c κs = search needs
+
+same-length : tie.Need-same-length
 same-length c = search needs
 
--- src/rows.rt:138:13
-same-length-2 : tie.Need-same-length-2 Inv-loop μ-loop
+same-length-2 : tie.Need-same-length-2
 same-length-2 c = search needs
 
--- src/rows.rt:138:13
-same-length-3 : tie.Need-same-length-3 Inv-loop μ-loop
-same-length-3 c = search needs
-
--- src/rows.rt:138:13
-returns : tie.Need-returns Inv-loop μ-loop
+returns : tie.Need-returns
 returns c = search needs
-
--- src/rows.rt:140:9
-add-k : tie.Need-add-k Inv-loop μ-loop
-add-k c = let t = c .before .before .before .before .before .before .before .before .before .before .before .before .before .before .loop-test .taken in let f = c .before .before .before .before .before .before .before .before .before .before .before .before .before .before .before .before .before .before .before .before .before .fits .n .fits in record { fits = omega arith }
-
--- src/rows.rt:124:5
-loop-less : tie.Need-loop-less Inv-loop μ-loop
-loop-less c = search needs
-
--- src/rows.rt:124:5
-loop-again : tie.Need-loop-again Inv-loop μ-loop
-loop-again c = search needs
-
--- src/rows.rt:109:1
-same-length-4 : tie.Need-same-length-4 Inv-loop μ-loop
-same-length-4 c = search needs
-
--- src/rows.rt:109:1
-same-length-5 : tie.Need-same-length-5 Inv-loop μ-loop
-same-length-5 c = search needs
-
--- src/rows.rt:109:1
-same-length-6 : tie.Need-same-length-6 Inv-loop μ-loop
-same-length-6 c = search needs
-
--- src/rows.rt:109:1
-returns-2 : tie.Need-returns-2 Inv-loop μ-loop
-returns-2 c = search needs
 
 pub some-rows-spec : {M : Type 1} → statement M
 some-rows-spec =
     tie.close
     (tie.spec
-    Inv-loop
-    μ-loop
-    turned-requires
-    loop-holds
-    mul-at
-    add-one-row
-    sub-one-row
-    part-one-row-start
-    part-one-row-end
-    one-row-requires
+    slice-aggregate-decode
+    decode-requires
+    array-share-prefix-space
+    slice-aggregate-first-above
+    cast-first-above
+    first-above-requires
+    whole-part-requires
+    array-share-prefix-space-2
+    slice-aggregate-rows
+    slice-aggregate-rows-2
+    rows-requires
+    slice-aggregate-rows-3
+    rows-requires-2
+    row-fault-requires
+    after-requires
     same-length
     same-length-2
-    same-length-3
-    returns
-    add-k
-    loop-less
-    loop-again
-    same-length-4
-    same-length-5
-    same-length-6
-    returns-2)
+    returns)

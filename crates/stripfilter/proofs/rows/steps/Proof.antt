@@ -1,67 +1,50 @@
-use Prim.Native.Nat.{_≤_}
-use mathlib.Core.Path.{_≡_}
+-- One step fewer each turn.
+-- Assumes nothing.
+use mathlib.Core.Path.{_≡_, refl, _∙_}
 use lib.ListN.{length}
-use native.Mathlib.Omega.{arith}
 use borrow.Author.Needs.{needs}
 use Rattle.stripfilter.proofs.rows.steps.Statement.{statement}
 use Rattle.stripfilter.proofs.rows.steps.Tie as tie
-use Rattle.stripfilter.proofs.rows.steps.Reads as reads
-use Rattle.stripfilter.proofs.rows.steps.Lts as lts
-use Rattle.stripfilter.proofs.rows.one_step.Reads as one-step-reads
-use Rattle.stripfilter.proofs.rows.turned.Reads as turned-reads
 
 abbrev Inv-loop : tie.InvT-loop
-Inv-loop job samples₀ sums₀ t₀ left₀ samples sums t left =
-    (job .width ≤ 1024) × (length samples ≡ length samples₀) × (length sums ≡ length sums₀)
+Inv-loop plan samples₀ sums₀ t₀ left₀ samples sums t left = (length samples ≡ length samples₀) × (length sums ≡ length sums₀)
 
 abbrev μ-loop : tie.MeasureT-loop
-μ-loop job samples₀ sums₀ t₀ left₀ samples sums t left = left
+μ-loop plan samples₀ sums₀ t₀ left₀ samples sums t left = left
 
--- src/rows.rt:135:9
 turned-requires : tie.Need-turned-requires Inv-loop μ-loop
 turned-requires c κs = search needs
 
--- src/rows.rt:137:5
 loop-holds : tie.Need-loop-holds Inv-loop μ-loop
-loop-holds c = search needs
+loop-holds c = (refl, refl)
 
--- src/rows.rt:138:9
 sub-left : tie.Need-sub-left Inv-loop μ-loop
 sub-left c = search needs
 
--- src/rows.rt:140:9
 one-step-requires : tie.Need-one-step-requires Inv-loop μ-loop
 one-step-requires c κs = search needs
 
--- src/rows.rt:142:13
 same-length : tie.Need-same-length Inv-loop μ-loop
 same-length c = search needs
 
--- src/rows.rt:142:13
 same-length-2 : tie.Need-same-length-2 Inv-loop μ-loop
 same-length-2 c = search needs
 
--- src/rows.rt:142:13
 returns : tie.Need-returns Inv-loop μ-loop
 returns c = search needs
 
--- src/rows.rt:137:5
 loop-less : tie.Need-loop-less Inv-loop μ-loop
 loop-less c = search needs
 
--- src/rows.rt:137:5
 loop-again : tie.Need-loop-again Inv-loop μ-loop
 loop-again c = search needs
 
--- src/rows.rt:132:1
 same-length-3 : tie.Need-same-length-3 Inv-loop μ-loop
 same-length-3 c = search needs
 
--- src/rows.rt:132:1
 same-length-4 : tie.Need-same-length-4 Inv-loop μ-loop
 same-length-4 c = search needs
 
--- src/rows.rt:132:1
 returns-2 : tie.Need-returns-2 Inv-loop μ-loop
 returns-2 c = search needs
 

@@ -1,3 +1,5 @@
+-- Byte after byte is put.
+-- Assumes nothing.
 use lib.Seq.{take-length}
 use lib.ListN.{set, getD, length-set}
 use denote.Ref.{now}
@@ -11,8 +13,6 @@ use Prim.Native.Nat.{ℕ, suc, _+_, _-_, _≤_, _<_}
 use borrow.Author.Needs.{needs}
 use Rattle.text.proofs.putting.copy.Statement.{statement}
 use Rattle.text.proofs.putting.copy.Tie as tie
-use Rattle.text.proofs.putting.copy.Reads as reads
-use Rattle.text.proofs.putting.copy.Lts as lts
 
 abbrev Inv-loop : tie.InvT-loop
 Inv-loop out₀ at text n j₀ out j = (j ≤ n) × (out ≡ paste out₀ at text j) × (length out ≡ length out₀)
@@ -20,31 +20,24 @@ Inv-loop out₀ at text n j₀ out j = (j ≤ n) × (out ≡ paste out₀ at tex
 abbrev μ-loop : tie.MeasureT-loop
 μ-loop out₀ at text n j₀ out j = n - j
 
--- src/text.rt:14:5
 loop-holds : tie.Need-loop-holds Inv-loop μ-loop
 loop-holds c = (search needs, paste-zero (now (c .args .out)) (c .args .at) (now (c .args .text)), refl)
 
--- src/text.rt:15:23
 shared-slice-read-out : tie.Need-shared-slice-read-out Inv-loop μ-loop
 shared-slice-read-out c = search needs
 
--- src/text.rt:15:13
 add-out : tie.Need-add-out Inv-loop μ-loop
 add-out c = search needs
 
--- src/text.rt:15:9
 slice-write-out : tie.Need-slice-write-out Inv-loop μ-loop
 slice-write-out c = search needs
 
--- src/text.rt:16:9
 add-j : tie.Need-add-j Inv-loop μ-loop
 add-j c = search needs
 
--- src/text.rt:14:5
 loop-less : tie.Need-loop-less Inv-loop μ-loop
 loop-less c = search needs
 
--- src/text.rt:14:5
 loop-again : tie.Need-loop-again Inv-loop μ-loop
 loop-again c =
     let s = c .before .before in
@@ -53,15 +46,12 @@ loop-again c =
     let p = s .before .pre in
     (omega arith, rw (add-one, i .1) (paste-suc (now (a .out)) (a .at) (now (a .text)) (s .loop .j) 0 (omega arith) (omega arith)), simp length-set (i .2))
 
--- src/text.rt:18:5
 add-result : tie.Need-add-result Inv-loop μ-loop
 add-result c = search needs
 
--- src/text.rt:8:1
 same-length : tie.Need-same-length Inv-loop μ-loop
 same-length c = search needs
 
--- src/text.rt:8:1
 returns : tie.Need-returns Inv-loop μ-loop
 returns c =
     let a = c .before .before .args in

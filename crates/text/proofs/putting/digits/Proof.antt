@@ -1,3 +1,5 @@
+-- Digit after digit from the right: what is left of the number is spelt by the places left.
+-- Assumes nothing.
 use mathlib.Core.Path.{subst}
 use denote.Ref.{now}
 use borrow.Author.Tests.{lt-ltb, le-ltb}
@@ -16,8 +18,6 @@ use Prim.Native.Nat.{ℕ, suc, _+_, _-_, _*_, _/_, _^_, _≤_, _<_}
 use borrow.Author.Needs.{needs}
 use Rattle.text.proofs.putting.digits.Statement.{statement}
 use Rattle.text.proofs.putting.digits.Tie as tie
-use Rattle.text.proofs.putting.digits.Reads as reads
-use Rattle.text.proofs.putting.digits.Lts as lts
 
 abbrev Inv-loop : tie.InvT-loop
 Inv-loop n buf₀ i₀ m₀ buf i m =
@@ -48,31 +48,24 @@ last : (k i m : ℕ) (buf : List ℕ) → k ≡ suc i → m < 10 → k < length 
 unfolding spell
 last k i m buf e h l = rw e (rw (drop-set buf (suc i) (48 + m) (subst (λ j. j < length buf) e l), lt-ltb m 10 h))
 
--- src/text.rt:27:5
 loop-holds : tie.Need-loop-holds Inv-loop μ-loop
 loop-holds c = (search needs, search needs, omega arith, refl, c .pre)
 
--- src/text.rt:28:23
 cast-buf : tie.Need-cast-buf Inv-loop μ-loop
 cast-buf c = search needs
 
--- src/text.rt:28:18
 add-buf : tie.Need-add-buf Inv-loop μ-loop
 add-buf c = search needs
 
--- src/text.rt:28:9
 slice-write-buf : tie.Need-slice-write-buf Inv-loop μ-loop
 slice-write-buf c = search needs
 
--- src/text.rt:30:9
 sub-i : tie.Need-sub-i Inv-loop μ-loop
 sub-i c = search needs
 
--- src/text.rt:27:5
 loop-less : tie.Need-loop-less Inv-loop μ-loop
 loop-less c = search needs
 
--- src/text.rt:27:5
 loop-again : tie.Need-loop-again Inv-loop μ-loop
 loop-again c =
     let i = c .before .loop .inv in
@@ -88,22 +81,18 @@ loop-again c =
       simp length-set (i .4),
     )
 
--- src/text.rt:32:19
 cast-buf-2 : tie.Need-cast-buf-2 Inv-loop μ-loop
 cast-buf-2 c = search needs
 
--- src/text.rt:32:14
 add-buf-2 : tie.Need-add-buf-2 Inv-loop μ-loop
 add-buf-2 c = search needs
 
--- src/text.rt:32:5
 slice-write-buf-2 : tie.Need-slice-write-buf-2 Inv-loop μ-loop
 slice-write-buf-2 c = search needs
 
 same-length : tie.Need-same-length Inv-loop μ-loop
 same-length c = let i = c .before .loop .inv .4 in let p = c .before .before .pre in simp length-set (omega arith)
 
--- src/text.rt:22:1
 returns : tie.Need-returns Inv-loop μ-loop
 unfolding decimal
 returns c =

@@ -1,51 +1,39 @@
+-- The digits stand in a buffer with the byte after them and a sign in front.
+-- Assumes nothing.
 use native.Mathlib.Omega.{arith}
 use lib.ListN.{length-set}
 use Rattle.text.proofs.Cells.{negative-lent}
 use borrow.Author.Needs.{needs}
 use Rattle.text.proofs.putting.put_negative.Statement.{statement}
 use Rattle.text.proofs.putting.put_negative.Tie as tie
-use Rattle.text.proofs.putting.put_negative.Reads as reads
-use Rattle.text.proofs.putting.put_negative.Lts as lts
-use Rattle.text.proofs.putting.digits.Reads as digits-reads
-use Rattle.text.proofs.putting.put_bytes.Reads as put-bytes-reads
 
--- src/putting.rt:68:27
 slice-aggregate-digits : tie.Need-slice-aggregate-digits
 slice-aggregate-digits c = search needs
 
--- src/putting.rt:68:17
 digits-requires : tie.Need-digits-requires
 digits-requires c κs = search needs
 
--- src/putting.rt:68:17
 sub-start : tie.Need-sub-start
 sub-start c = search needs
 
--- src/putting.rt:69:5
 array-write-buf : tie.Need-array-write-buf
 array-write-buf c = search needs
 
--- src/putting.rt:70:24
 sub-put-bytes : tie.Need-sub-put-bytes
 sub-put-bytes c = search needs
 
--- src/putting.rt:70:24
 part-put-bytes-start : tie.Need-part-put-bytes-start
 part-put-bytes-start c = search needs
 
--- src/putting.rt:70:24
 part-put-bytes-end : tie.Need-part-put-bytes-end
 part-put-bytes-end c = let d = c .before .before .before .digits .ensures .3 in simp length-set (omega arith)
 
--- src/putting.rt:70:5
 put-bytes-requires : tie.Need-put-bytes-requires
 put-bytes-requires c κs = search needs
 
--- src/putting.rt:63:1
 same-length : tie.Need-same-length
 same-length c = search needs
 
--- src/putting.rt:63:1
 returns : tie.Need-returns
 returns c =
     let s = c .before .before .before .before .before .before .before in

@@ -1,0 +1,5 @@
+pub mod Alike
+pub mod Stores
+pub mod Texts
+pub mod Accepted
+pub mod Orders

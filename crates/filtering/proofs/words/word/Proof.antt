@@ -1,0 +1,122 @@
+-- Each option by its name, in the definition's order; then the first byte.
+-- Assumes nothing.
+use Prim.Native.Nat.{ℕ}
+use native.Mathlib.Omega.{arith}
+use mathlib.Core.Path.{_≡_, refl, sym, _∙_}
+use mathlib.Core.Bool.{Bool, true, false}
+use mathlib.Core.List.{List, [], _∷_}
+use lib.Dec.{eqb}
+use lib.ListN.{length, getD}
+use borrow.Author.Tests.{eq-eqb, ne-eqb}
+use Rattle.text.specs.Ascii.{ascii}
+use Rattle.filtering.specs.Commands.{wordOf}
+use borrow.Author.Needs.{needs}
+use Rattle.filtering.proofs.words.word.Statement.{statement}
+use Rattle.filtering.proofs.words.word.Tie as tie
+
+yes-is : {g t : Bool} → g ≡ t → g ≡ true → t ≡ true
+yes-is e h = sym e ∙ h
+
+no-is : {g t : Bool} → g ≡ t → g ≡ false → t ≡ false
+no-is e h = sym e ∙ h
+
+no-first : (w : List ℕ) → length w ≡ 0 → eqb (getD w 0 0) 45 ≡ false
+no-first [] h = refl
+no-first (b ∷ w) h = absurd (omega arith)
+
+slice-aggregate-same : tie.Need-slice-aggregate-same
+slice-aggregate-same c = search needs
+
+same-requires : tie.Need-same-requires
+same-requires c κs = search needs
+
+returns : tie.Need-returns
+unfolding ascii wordOf
+returns c = rw (yes-is (c .before .same .ensures) (c .if1 .taken)) refl
+
+slice-aggregate-same-2 : tie.Need-slice-aggregate-same-2
+slice-aggregate-same-2 c = search needs
+
+same-requires-2 : tie.Need-same-requires-2
+same-requires-2 c κs = search needs
+
+returns-2 : tie.Need-returns-2
+unfolding ascii wordOf
+returns-2 c = rw (no-is (c .before .before .before .before .same .ensures) (c .before .before .before .if1 .left), yes-is (c .before .same2 .ensures) (c .if2 .taken)) refl
+
+slice-aggregate-same-3 : tie.Need-slice-aggregate-same-3
+slice-aggregate-same-3 c = search needs
+
+same-requires-3 : tie.Need-same-requires-3
+same-requires-3 c κs = search needs
+
+returns-3 : tie.Need-returns-3
+unfolding ascii wordOf
+returns-3 c = rw (no-is (c .before .before .before .before .before .before .before .same .ensures) (c .before .before .before .before .before .before .if1 .left), no-is (c .before .before .before .before .same2 .ensures) (c .before .before .before .if2 .left), yes-is (c .before .same3 .ensures) (c .if3 .taken)) refl
+
+slice-aggregate-same-4 : tie.Need-slice-aggregate-same-4
+slice-aggregate-same-4 c = search needs
+
+same-requires-4 : tie.Need-same-requires-4
+same-requires-4 c κs = search needs
+
+returns-4 : tie.Need-returns-4
+unfolding ascii wordOf
+returns-4 c = rw (no-is (c .before .before .before .before .before .before .before .before .before .before .same .ensures) (c .before .before .before .before .before .before .before .before .before .if1 .left), no-is (c .before .before .before .before .before .before .before .same2 .ensures) (c .before .before .before .before .before .before .if2 .left), no-is (c .before .before .before .before .same3 .ensures) (c .before .before .before .if3 .left), yes-is (c .before .same4 .ensures) (c .if4 .taken)) refl
+
+returns-5 : tie.Need-returns-5
+unfolding ascii wordOf
+returns-5 c =
+    rw (
+      no-is (c .before .before .before .before .before .before .before .before .before .before .before .same .ensures) (c .before .before .before .before .before .before .before .before .before .before .if1 .left),
+      no-is (c .before .before .before .before .before .before .before .before .same2 .ensures) (c .before .before .before .before .before .before .before .if2 .left),
+      no-is (c .before .before .before .before .before .same3 .ensures) (c .before .before .before .before .if3 .left),
+      no-is (c .before .before .same4 .ensures) (c .before .if4 .left),
+      no-first _ (c .if5 .taken),
+    ) refl
+
+shared-slice-read-if6 : tie.Need-shared-slice-read-if6
+shared-slice-read-if6 c = search needs
+
+returns-6 : tie.Need-returns-6
+unfolding ascii wordOf
+returns-6 c =
+    rw (
+      no-is (c .before .before .before .before .before .before .before .before .before .before .before .before .before .same .ensures) (c .before .before .before .before .before .before .before .before .before .before .before .before .if1 .left),
+      no-is (c .before .before .before .before .before .before .before .before .before .before .same2 .ensures) (c .before .before .before .before .before .before .before .before .before .if2 .left),
+      no-is (c .before .before .before .before .before .before .before .same3 .ensures) (c .before .before .before .before .before .before .if3 .left),
+      no-is (c .before .before .before .before .same4 .ensures) (c .before .before .before .if4 .left),
+      eq-eqb _ _ (c .if6 .taken),
+    ) refl
+
+returns-7 : tie.Need-returns-7
+unfolding ascii wordOf
+returns-7 c =
+    rw (
+      no-is (c .before .before .before .before .before .before .before .before .before .before .before .before .before .same .ensures) (c .before .before .before .before .before .before .before .before .before .before .before .before .if1 .left),
+      no-is (c .before .before .before .before .before .before .before .before .before .before .same2 .ensures) (c .before .before .before .before .before .before .before .before .before .if2 .left),
+      no-is (c .before .before .before .before .before .before .before .same3 .ensures) (c .before .before .before .before .before .before .if3 .left),
+      no-is (c .before .before .before .before .same4 .ensures) (c .before .before .before .if4 .left),
+      ne-eqb _ _ (c .if6 .left),
+    ) refl
+
+pub word-spec : {M : Type 1} → statement M
+word-spec =
+    tie.close
+    (tie.spec
+    slice-aggregate-same
+    same-requires
+    returns
+    slice-aggregate-same-2
+    same-requires-2
+    returns-2
+    slice-aggregate-same-3
+    same-requires-3
+    returns-3
+    slice-aggregate-same-4
+    same-requires-4
+    returns-4
+    returns-5
+    shared-slice-read-if6
+    returns-6
+    returns-7)

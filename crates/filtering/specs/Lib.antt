@@ -1,0 +1,4 @@
+pub mod Commands
+pub mod Judging
+pub mod Moves
+pub mod Messages
