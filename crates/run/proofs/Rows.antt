@@ -15,7 +15,7 @@ use borrow.Author.Tests.{lt-ltb, le-ltb}
 use Rattle.arith.specs.All.{all}
 use Rattle.arith.proofs.Alls.{all-at, all-of}
 use Rattle.rule.proofs.Asked.{has-bits}
-use Rattle.rule.specs.Questions.{atMost}
+use Rattle.rule.specs.Questions.{sampleGood}
 use Rattle.rule.specs.Sums.{HasBits, sampleAt}
 use Rattle.run.specs.Rows.{flat, scanned, goodRows}
 use Rattle.run.proofs.Arrives.{Lies}
@@ -23,14 +23,14 @@ use Rattle.run.proofs.Arrives.{Lies}
 -- rows that are good
 pub record Good (l b : ℕ) (row : List ℕ) (rows : List (List ℕ)) : Type 0 where
   pub long : length row ≡ l
-  pub small : T (all (length row) (atMost (2 ^ b - 1) row))
+  pub small : T (all (length row) (sampleGood (2 ^ b - 1) row))
   pub rest : T (goodRows l b rows)
 
 pub good : (l b : ℕ) (row : List ℕ) (rows : List (List ℕ)) → T (goodRows l b (row ∷ rows)) → Good l b row rows
 unfolding goodRows
 good l b row rows h =
     let a = and-yes (eqb (length row) l) _ h in
-    let c = and-yes (all (length row) (atMost (2 ^ b - 1) row)) (goodRows l b rows) (a .1) in
+    let c = and-yes (all (length row) (sampleGood (2 ^ b - 1) row)) (goodRows l b rows) (a .1) in
     record { long = eqb→eq (length row) l (a .0); small = c .0; rest = c .1 }
 
 pub flat-length : (l b : ℕ) (rows : List (List ℕ)) → T (goodRows l b rows) → length (flat rows) ≡ length rows * l
@@ -71,14 +71,14 @@ flat-small l b (row ∷ rows) h k = go (flat-small l b rows (g .rest)) (ltb k (l
 
     go : ((k : ℕ) → getD (flat rows) k 0 ≤ 2 ^ b - 1) → (q : Bool) → (T q → k < length row) → (T (not q) → length row ≤ k) → getD (row ++ flat rows) k 0 ≤ 2 ^ b - 1
     go more true y n =
-        rw (List·getD-append row (flat rows) 0 k (y tt)) (leb→le (getD row k 0) (2 ^ b - 1) (all-at (length row) (atMost (2 ^ b - 1) row) (g .small) k (y tt)))
+        rw (List·getD-append row (flat rows) 0 k (y tt)) (leb→le (getD row k 0) (2 ^ b - 1) (all-at (length row) (sampleGood (2 ^ b - 1) row) (g .small) k (y tt)))
     go more false y n =
         let m = n tt in
         let e : k ≡ length row + (k - length row) = omega arith in
         subst (λ i. getD (row ++ flat rows) i 0 ≤ 2 ^ b - 1) (sym e) (rw (getD-append-add row (flat rows) (k - length row) 0) (more (k - length row)))
 
-pub flat-bits : (l b : ℕ) (rows : List (List ℕ)) → T (goodRows l b rows) → T (all (length (flat rows)) (atMost (2 ^ b - 1) (flat rows)))
-flat-bits l b rows h = all-of (length (flat rows)) (atMost (2 ^ b - 1) (flat rows)) (λ k p. le→leb (getD (flat rows) k 0) (2 ^ b - 1) (flat-small l b rows h k))
+pub flat-bits : (l b : ℕ) (rows : List (List ℕ)) → T (goodRows l b rows) → T (all (length (flat rows)) (sampleGood (2 ^ b - 1) (flat rows)))
+flat-bits l b rows h = all-of (length (flat rows)) (sampleGood (2 ^ b - 1) (flat rows)) (λ k p. le→leb (getD (flat rows) k 0) (2 ^ b - 1) (flat-small l b rows h k))
 
 -- the scan of good rows
 pub rows-lie : (l b : ℕ) (rows : List (List ℕ)) → T (goodRows l b rows) → Lies l b (sampleAt l (flat rows))
@@ -124,10 +124,10 @@ unfolding goodRows
 good-append l b [] more h g = g
 good-append l b (row ∷ rows) more h g =
     let a = and-yes (eqb (length row) l) _ h in
-    let c = and-yes (all (length row) (atMost (2 ^ b - 1) row)) (goodRows l b rows) (a .1) in
-    yes-and (eqb (length row) l) _ (a .0) (yes-and (all (length row) (atMost (2 ^ b - 1) row)) _ (c .0) (good-append l b rows more (c .1) g))
+    let c = and-yes (all (length row) (sampleGood (2 ^ b - 1) row)) (goodRows l b rows) (a .1) in
+    yes-and (eqb (length row) l) _ (a .0) (yes-and (all (length row) (sampleGood (2 ^ b - 1) row)) _ (c .0) (good-append l b rows more (c .1) g))
 
-pub good-one : (l b : ℕ) (row : List ℕ) → eqb (length row) l ≡ true → all (length row) (atMost (2 ^ b - 1) row) ≡ true → T (goodRows l b (row ∷ []))
+pub good-one : (l b : ℕ) (row : List ℕ) → eqb (length row) l ≡ true → all (length row) (sampleGood (2 ^ b - 1) row) ≡ true → T (goodRows l b (row ∷ []))
 unfolding goodRows
 good-one l b row e f = rw (e, f) tt
 

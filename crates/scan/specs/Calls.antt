@@ -11,7 +11,7 @@ use Rattle.layout.specs.declared.Table.{Table}
 use Rattle.layout.specs.Answers.{Said, refused, accepted, waiting, done, Question, asks, asksEach, firstNo, Left, left}
 use Rattle.layout.specs.Measure.{delayOf}
 use Rattle.limits.specs.Limits.{acceptable}
-use Rattle.rule.specs.Questions.{widthGood, atMost}
+use Rattle.rule.specs.Questions.{widthGood, sampleGood}
 use Rattle.arrival.specs.Arrivals.{Arrival, arriving, storesGood, arrivalAsks, samplesAfter, sumsAfter, outputAfter}
 use Rattle.scan.specs.declared.Scan.{Scan}
 
@@ -77,7 +77,7 @@ rowAsks s row samples sums out =
     ∷ asks 16 (ltb (s .rows) 65535)
     ∷ asks 17 (eqb (length row) (s .width))
     ∷ asks 13 (lentGood s samples sums out)
-    ∷ asksEach 18 (length row) (atMost (2 ^ s .table .b - 1) row)
+    ∷ asksEach 18 (length row) (sampleGood (2 ^ s .table .b - 1) row)
     ∷ []
 
 -- a row: 14, 15, 16, 17, 13, 18 and 19; refused, it leaves what it was given
