@@ -39,6 +39,9 @@ mended-step f (suc k) = refl
 pub mended-live : (f : ℕ → ℕ) (k : ℕ) → ¬ (f k ≡ dead) → mendedAt f k ≡ f k
 mended-live f k n = mended-step f k ∙ rw (ne-eqb (f k) dead n) refl
 
+pub mended-zero : (f : ℕ → ℕ) (k : ℕ) → f k ≡ 0 → mendedAt f k ≡ 0
+mended-zero f k e = mended-live f k (λ d. let z : _≡_ {A = ℕ} 0 dead = sym e ∙ d in omega arith) ∙ e
+
 -- a dead one takes what is before it
 pub mended-dead : (f : ℕ → ℕ) (k : ℕ) → f k ≡ dead → mendedAt f k ≡ before f k
 mended-dead f k e = mended-step f k ∙ rw (eq-eqb (f k) dead e) refl

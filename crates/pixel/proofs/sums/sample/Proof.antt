@@ -7,8 +7,8 @@ use lib.ListN.{getD, List·getD-eq-default}
 use borrow.Author.Tests.{le-ltb, lt-ltb}
 use Rattle.arith.proofs.Ints.{sub-low, sub-high}
 use Rattle.rule.specs.Sums.{sampleAt}
-use Rattle.rule.specs.Mended.{dead, mendedAt}
-use Rattle.rule.proofs.Mended.{mended-live}
+use Rattle.rule.specs.Mended.{mendedAt}
+use Rattle.rule.proofs.Mended.{mended-zero}
 use borrow.Author.Needs.{needs}
 use Rattle.pixel.proofs.sums.sample.Statement.{statement}
 use Rattle.pixel.proofs.sums.sample.Tie as tie
@@ -45,7 +45,7 @@ returns-4 c = let s = c .before in
     let a = s .before .before .before .before .args in
     let beyond = List·getD-eq-default (a .samples .now) 0 {n = (a .row - 128) * a .width + (a .col - 128)} (search needs) in
     rw (sub-high (a .row) 128 (s .before .before .if1 .left), sub-high (a .col) 128 (s .before .if2 .left), lt-ltb _ _ (s .if3 .left))
-    (sym (mended-live (λ k. getD (a .samples .now) ((a .row - 128) * a .width + k) 0) (a .col - 128) (λ e. let z : _≡_ {A = ℕ} 0 dead = sym beyond ∙ e in omega arith) ∙ beyond))
+    (sym (mended-zero (λ k. getD (a .samples .now) ((a .row - 128) * a .width + k) 0) (a .col - 128) beyond))
 
 live-requires : tie.Need-live-requires
 live-requires c κs = search needs
