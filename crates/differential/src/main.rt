@@ -35,8 +35,13 @@ fn sent(x: u64, dead: u64, sample: u16) -> u16 {
 
 // How many elements of sixteen are dead: none for half of the seeds, else 1, 4, 9 or all.
 fn dead_of(seed: u64) -> u64 {
-    let d = less(draw(seed, 206, 7), 3);
-    d * d
+    match draw(seed, 206, 7) {
+        4 => 1,
+        5 => 4,
+        6 => 9,
+        7 => 16,
+        _ => 0,
+    }
 }
 
 // Samples below 2^b from a seed, for a sixth of the seeds the largest, with dead elements among them.
