@@ -4,9 +4,9 @@ use Prim.Native.Nat.{ℕ, zero, suc, _+_, _-_, _*_, _^_, _≤_, _<_, zero-le}
 use native.Mathlib.Nat.{not-suc-le-zero, mul-le-mul-right}
 use native.Mathlib.Omega.{arith}
 use mathlib.Core.Path.{_≡_, refl, sym, ap, _∙_, subst}
-use mathlib.Core.Bool.{Bool, true, false, not, cond, _&&_}
+use mathlib.Core.Bool.{Bool, true, false, not, cond}
 use mathlib.Core.List.{List, [], _∷_, _++_, append-assoc}
-use lib.Dec.{T, leb, ltb, eqb, eqb→eq, ltb→lt, nltb→le}
+use lib.Dec.{T, ltb, eqb, eqb→eq, ltb→lt, nltb→le}
 use lib.IntN.{ℤ, pos, negsuc}
 use lib.ListN.{length, getD, length-append, List·getD-append, List·getD-eq-default}
 use lib.Seq.{getD-append-add}
@@ -18,7 +18,7 @@ use Rattle.rule.specs.Mended.{mendedAt, mended}
 use Rattle.rule.proofs.Asked.{has-bits}
 use Rattle.rule.proofs.Mended.{small-good, mended-zero, mended-cong, getD-mended}
 use Rattle.rule.specs.Questions.{sampleGood}
-use Rattle.rule.specs.Sums.{HasBits, sampleAt}
+use Rattle.rule.specs.Sums.{sampleAt}
 use Rattle.run.specs.Rows.{flat, scanned, goodRows}
 use Rattle.run.proofs.Arrives.{Lies}
 
@@ -95,13 +95,21 @@ rows-lie l b rows h =
     right (pos i) j q = rw (le-ltb j l q) refl
     right (negsuc i) j q = refl
 
--- row i of the scan, mended, and darkness below the last row
+row-long : (l b : ℕ) (rows : List (List ℕ)) → T (goodRows l b rows) → (i : ℕ) → i < length rows → length (getD rows i []) ≡ l
+row-long l b [] h i p = absurd (not-suc-le-zero p)
+row-long l b (row ∷ rows) h zero p = good l b row rows h .long
+row-long l b (row ∷ rows) h (suc i) p = row-long l b rows (good l b row rows h .rest) i (omega arith)
+
+-- row i of the scan is the row given, mended
 pub row-at :
     (l b : ℕ) (rows : List (List ℕ)) → T (goodRows l b rows) → (i c : ℕ) → i < length rows → c < l
-    → mendedAt (λ k. getD (getD rows i []) k 0) c ≡ sampleAt l (flat rows) (pos i) (pos c)
+    → getD (mended (getD rows i [])) c 0 ≡ scanned l rows (pos i) (pos c)
 unfolding sampleAt
-row-at l b rows h i c p q = rw (lt-ltb c l q) (mended-cong _ _ c (λ k m. flat-at l b rows h i k p (omega arith)))
+row-at l b rows h i c p q =
+    let n = row-long l b rows h i p in
+    rw (lt-ltb c l q) (getD-mended (getD rows i []) c (omega arith) ∙ mended-cong _ _ c (λ k m. flat-at l b rows h i k p (omega arith)))
 
+-- darkness below the last row
 pub below : (l b : ℕ) (rows : List (List ℕ)) → T (goodRows l b rows) → (i c : ℕ) → length rows ≤ i → sampleAt l (flat rows) (pos i) (pos c) ≡ 0
 unfolding sampleAt
 below l b rows h i c p = go (ltb c l)

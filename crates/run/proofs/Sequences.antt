@@ -30,11 +30,11 @@ use Rattle.scan.specs.declared.Scan.{Scan}
 use Rattle.scan.specs.Calls.{World, world, agrees, lentGood, startAsks, startOf, arrivalOf, rowArrival, dueSaid, takenIn, rowIn, rowAsks, rowOf, shut, closeOf, stepIn, closingOf, stepOf}
 use Rattle.burst.specs.Bursts.{progress, feed, allRows, noRows, burstAsks, burstOf}
 use Rattle.run.specs.Rows.{scanned, goodRows}
-use Rattle.run.specs.Holds.{Starts, Stores}
+use Rattle.run.specs.Holds.{Starts, Kept, Stores}
 use Rattle.run.specs.Sequences.{Call, rowCall, rowsCall, closeCall, stepCall, engine, Machine, machine, dueLeft, machineAsks, withRow, machineRow, machineRows, machineClose, machineStep, answers, started}
 use Rattle.run.proofs.Arrives.{Lies}
 use Rattle.run.proofs.Stores.{all-good, stores-next, output-due}
-use Rattle.run.proofs.Rows.{rows-lie, below, good-append, good-one, more-agrees, more-above, last-row}
+use Rattle.run.proofs.Rows.{rows-lie, row-at, below, good-append, good-one, more-agrees, more-above, last-row}
 use Rattle.run.proofs.Starts.{stores-none, stores-agree}
 use Rattle.run.proofs.Alike.{Matches, feed-alike, left-alike}
 
@@ -283,6 +283,12 @@ rows-case m samples sums f st rows out =
     (λ y. left-alike Follows rowOf machineRow row-kept _ _
     (feed-alike Follows rowOf machineRow row-kept (m .width) (length rows / m .width) rows (progress (accepted []) w out 0 0) (progress (accepted []) m out 0 0)
     record { said = refl; out = refl; taken = refl; filtered = refl; follows = together })))
+
+-- M-101: while a row is one of the last 32 arrivals, the sample store keeps it mended
+pub kept-mended : (w : World) (m : Machine) → Follows w m → (e c : ℕ) → e < length (m .rows) → length (m .rows) + m .steps ≤ e + 32 → c < m .width
+    → getD (w .samples) (e % 32 * m .width + c) 0 ≡ getD (mended (getD (m .rows) e [])) c 0
+unfolding Kept
+kept-mended w m r e c p near q = r .stores .kept e c (omega arith) near q ∙ sym (row-at (m .width) (m .table .b) (m .rows) (r .fair .good) e c p q)
 
 -- each call keeps the relation, and is answered alike
 pub kept : (w : World) (m : Machine) (c : Call) → Follows w m → Agree (engine w c) (answers m c)

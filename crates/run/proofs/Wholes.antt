@@ -169,7 +169,7 @@ module _ (t : Table) (l : ℕ) (outs : ℕ → List ℤ) (long : (a : ℕ) → l
         r .ends _ ∙ closing .ends _ ∙ ap (λ x. x .state) (done-again rows _)
 
     -- Demands 1 and 2 over a whole scan, Q1 to Q3 and Q5. For every table that loading accepts, every width from 1 to 1,024, every pair of
-    -- stores long enough, whatever they hold, every list of at most 65,535 rows of L samples of b bits, and outputs of at least L places:
+    -- stores long enough, whatever they hold, every list of at most 65,535 rows of L samples of b bits or dead, and outputs of at least L places:
     -- starting is accepted, and every row, the closing and every closing step is answered as it is due: waiting before arrival D, and row a - D
     -- at each arrival a from then on, each pixel the pixel rule's on the whole scan; after D steps the answer is done.
     pub whole-scan : (samples sums : List ℕ) → Starts t l samples sums

@@ -1,8 +1,8 @@
 -- A place of the frame is one of the scan, or outside it and 0.
-use Prim.Native.Nat.{ℕ, _-_, _*_, _+_, _≤_, _<_}
+use Prim.Native.Nat.{_-_, _*_, _+_, _≤_}
 use native.Mathlib.Nat.{mul-le-mul}
 use native.Mathlib.Omega.{arith}
-use mathlib.Core.Path.{_≡_, refl, sym, ap, _∙_}
+use mathlib.Core.Path.{refl, sym, ap, _∙_}
 use lib.ListN.{getD, List·getD-eq-default}
 use borrow.Author.Tests.{le-ltb, lt-ltb}
 use Rattle.arith.proofs.Ints.{sub-low, sub-high}

@@ -1,7 +1,6 @@
 -- A sample at most the limit, or one that is dead.
 use mathlib.Core.Path.{refl}
 use borrow.Author.Tests.{le-leb, lt-leb}
-use borrow.Author.Needs.{needs}
 use Rattle.rule.proofs.above.sample_good.Statement.{statement}
 use Rattle.rule.proofs.above.sample_good.Tie as tie
 

@@ -1,7 +1,6 @@
 -- The test is the definition's.
 use mathlib.Core.Path.{refl}
 use borrow.Author.Tests.{eq-eqb, ne-eqb}
-use borrow.Author.Needs.{needs}
 use Rattle.rule.proofs.mending.live_sample.Statement.{statement}
 use Rattle.rule.proofs.mending.live_sample.Tie as tie
 

@@ -5,7 +5,6 @@ use native.Mathlib.Omega.{arith}
 use mathlib.Core.Path.{_≡_, ap, _∙_, sym}
 use mathlib.Core.List.{_++_}
 use lib.ListN.{getD, drop}
-use Rattle.arith.specs.Tab.{tab}
 use Rattle.arith.proofs.Tabs.{tab-cong}
 use Rattle.rule.specs.Mended.{dead, mendedAt}
 use Rattle.rule.proofs.Mended.{mended-live, mended-part}
