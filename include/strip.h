@@ -3,7 +3,7 @@
  *
  * A scan is rows of `width` samples, read top to bottom. A table gives 1 to 16 rectangles, each with a signed weight. Each place of the
  * scan yields one pixel: the weighted sum of the samples under the rectangles, shifted right by t and rounded downwards. Samples outside
- * the scan count as zero.
+ * the scan count as zero, and a dead sample as the nearest live one to its left in its row.
  *
  * Link with build/libstrip.a; it needs memcpy and memset and nothing else, allocates nothing and keeps nothing between calls.
  *
@@ -38,6 +38,10 @@ extern "C" {
 #define STRIP_KEPT_ROWS 32           /* rows in the sample store */
 #define STRIP_FILE_MOST 153          /* bytes of a table file: 9 + 9 * STRIP_RECTS */
 
+/* A sample that says: this element of the sensor failed. It counts as the nearest live sample to its left in its row, or as zero where
+   there is none. */
+#define STRIP_DEAD 65535
+
 /* Elements that a scan of rows of `width` samples needs: in the sample store, and in the sum store with `rects` rectangles. The output
    needs `width` elements. */
 #define STRIP_SAMPLES(width) (STRIP_KEPT_ROWS * (size_t)(width))
@@ -69,7 +73,7 @@ typedef enum {
     STRIP_CLOSED = 15,         /* the scan is closed; of a closing step: it is not */
     STRIP_FULL = 16,           /* 65,535 rows are in */
     STRIP_LENGTH = 17,         /* the row has not `width` samples; of strip_pixel: the length is not width times 1 to 65,535 */
-    STRIP_SAMPLE = 18,         /* a sample is above 2^b - 1; place: the lowest index of one */
+    STRIP_SAMPLE = 18,         /* a sample is above 2^b - 1 and not STRIP_DEAD; place: the lowest index of one */
     STRIP_SUM = 19,            /* a column sum that cannot be: a store was altered between calls; place: the lowest rectangle, from 0 */
     STRIP_OUTSIDE = 20,        /* row or column outside the scan */
     STRIP_NOT_ROWS = 21        /* the samples handed over together are not whole rows: their number is no multiple of `width` */
@@ -152,7 +156,8 @@ typedef struct {
 
 /* Takes in a row of k samples. Asks 14, 15, 16, 17 (k is not width), 13 (a store, or o below width), 18, 19. Row r comes out with the
    arrival of row r + D, D the largest lead row of the table or 0: kind is STRIP_ROW with number r, and the first `width` elements of
-   out hold the filtered row. Until then kind is STRIP_WAITING and out is not touched. scan: the scan with one row more. */
+   out hold the filtered row. Until then kind is STRIP_WAITING and out is not touched. A dead sample counts as said at STRIP_DEAD, and
+   so the sample store keeps it; a 65,535 that somebody writes into the store is that number. scan: the scan with one row more. */
 strip_answer strip_scan_row(strip_scan scan, const uint16_t *row, size_t k, uint16_t *samples, size_t n, uint32_t *sums, size_t m, int32_t *out, size_t o);
 
 typedef struct {
@@ -162,9 +167,10 @@ typedef struct {
 } strip_burst;
 
 /* Takes in several rows together: k samples, row after row. Asks 14, 15, 21 (k is no multiple of width), 13 (o below k); then each row
-   as strip_scan_row does, one after the other, with 16, 13 (a store), 18, 19. The filtered rows stand in out one after the other from
-   its start. At a refused row it stops: the `taken` rows before it count, their `filtered` rows stand in out, and refusal and place are
-   those of that row. refusal: 0 where all rows are taken, which is also the answer to no rows. scan: the scan with `taken` rows more. */
+   as strip_scan_row does, one after the other, with 16, 13 (a store), 18, 19; a row that begins dead is not mended from the row before
+   it. The filtered rows stand in out one after the other from its start. At a refused row it stops: the `taken` rows before it count,
+   their `filtered` rows stand in out, and refusal and place are those of that row. refusal: 0 where all rows are taken, which is also
+   the answer to no rows. scan: the scan with `taken` rows more. */
 strip_burst strip_scan_rows(strip_scan scan, const uint16_t *rows, size_t k, uint16_t *samples, size_t n, uint32_t *sums, size_t m, int32_t *out, size_t o);
 
 /* A closing step: as a row of zeros, after strip_scan_close. Asks 14, 15 (the scan is not closed); where D steps are past kind is
@@ -179,8 +185,9 @@ typedef struct {
     int32_t value;
 } strip_pixel_answer;
 
-/* The pixel at row r, column c of a scan lent whole: n samples, row after row. Asks 11, 12, 17, 20, 18 (of all n samples). value: the
-   pixel, the same that the scan calls give; refused, 0. */
+/* The pixel at row r, column c of a scan lent whole: n samples, row after row. Asks 11, 12, 17, 20, 18 (of all n samples). A dead sample
+   counts as said at STRIP_DEAD, also where the live one lies left of the rectangle. value: the pixel, the same that the scan calls
+   give; refused, 0. */
 strip_pixel_answer strip_pixel(strip_table table, size_t width, const uint16_t *samples, size_t n, size_t r, size_t c);
 
 #ifdef __cplusplus

@@ -1,13 +1,13 @@
 //! The scan engine as the papers have it: its questions, its two stores and its steps, on any state and stores.
 
 use crate::ffi::{Answer, Burst, Rect, Scan, Started, Table, DONE, REFUSED, ROW, WAITING};
-use crate::pixel::{first_above, width_good, MOST_ROWS};
+use crate::pixel::{first_above, last_live, width_good, DEAD, MOST_ROWS};
 use crate::table::{accepted, delay, rects, rows};
 
 /// Rows that the sample store keeps.
 pub const KEPT: usize = 32;
 
-/// What an arrival brings: a row of samples, or the zeros of a closing step.
+/// What an arrival brings: a row of samples as given, or the zeros of a closing step.
 #[derive(Clone, Copy)]
 pub enum Arrival<'a> {
     Row(&'a [u16]),
@@ -15,9 +15,10 @@ pub enum Arrival<'a> {
 }
 
 impl Arrival<'_> {
+    /// The sample of a column, mended.
     fn at(&self, column: usize) -> u16 {
         match self {
-            Arrival::Row(row) => row[column],
+            Arrival::Row(row) => last_live(&row[..=column]),
             Arrival::Zeros => 0,
         }
     }
@@ -116,6 +117,18 @@ impl<'a> Moment<'a> {
             samples[row as usize % KEPT * self.scan.width + column]
         };
         u64::from(sample >> self.scan.table.q1)
+    }
+
+    /// A row that a rectangle reaches in the store holds a 65,535 that somebody wrote there.
+    pub fn reads_dead(&self, samples: &[u16]) -> bool {
+        let width = self.scan.width;
+        rects(&self.scan.table).iter().any(|rect| {
+            [rect.trailrow, rect.leadrow].iter().any(|&edge| {
+                let row = self.due + i64::from(edge);
+                let at = row.rem_euclid(KEPT as i64) as usize * width;
+                row >= 0 && row != self.a && samples[at..at + width].contains(&DEAD)
+            })
+        })
     }
 
     /// The leaving and the entering cut sample of a rectangle in a column.

@@ -1,6 +1,7 @@
 //! Random tables, rows and files.
 
 use crate::ffi::{Rect, Table};
+use crate::pixel::DEAD;
 use crate::rng::Rng;
 use crate::table::{self, columns, extremes, fits, rows};
 
@@ -185,8 +186,31 @@ fn narrow_table(rng: &mut Rng) -> Table {
     table
 }
 
-/// A row of samples that the table takes.
+/// A row of samples that the table takes, now and then with dead elements.
 pub fn row(rng: &mut Rng, table: &Table, width: usize) -> Vec<u16> {
+    let mut row = live_row(rng, table, width);
+    match rng.below(12) {
+        0 => row.fill(DEAD),
+        1 => row[0] = DEAD,
+        2 => {
+            let first = rng.below(width);
+            let last = first + rng.below(width - first);
+            row[first..=last].fill(DEAD);
+        }
+        3 | 4 => {
+            let rate = rng.pick(&[2, 4, 9]);
+            for sample in &mut row {
+                if rng.one_in(rate) {
+                    *sample = DEAD;
+                }
+            }
+        }
+        _ => {}
+    }
+    row
+}
+
+fn live_row(rng: &mut Rng, table: &Table, width: usize) -> Vec<u16> {
     let largest = i64::from(table::largest_sample(table));
     let style = rng.below(6);
     let level = rng.range(0, largest);

@@ -6,6 +6,15 @@ use crate::table::{accepted, largest_sample, rects};
 pub const MOST_COLUMNS: usize = 1024;
 pub const MOST_ROWS: usize = 65_535;
 
+/// A sample that says: this element failed.
+pub const DEAD: u16 = 65_535;
+
+/// The sample that the last of these counts as: the last live one, or zero.
+pub fn last_live(samples: &[u16]) -> u16 {
+    let live = samples.iter().rev().find(|&&s| s != DEAD);
+    live.copied().unwrap_or(0)
+}
+
 /// A scan as rows of `width` samples, zero outside.
 #[derive(Clone, Copy)]
 pub struct Strip<'a> {
@@ -18,8 +27,26 @@ impl Strip<'_> {
         if row < 0 || column < 0 || column >= self.width as i64 {
             return 0;
         }
-        let index = row as usize * self.width + column as usize;
-        self.samples.get(index).map_or(0, |&s| i64::from(s))
+        let first = row as usize * self.width;
+        let to_here = self.samples.get(first..=first + column as usize);
+        to_here.map_or(0, |samples| i64::from(last_live(samples)))
+    }
+
+    /// A rectangle's first column is dead somewhere, and what it counts as lies before the rectangle.
+    pub fn looks_left(&self, table: &Table, r: usize, c: usize) -> bool {
+        rects(table).iter().any(|rect| {
+            let column = c as i64 + i64::from(rect.trailcol) + 1;
+            let first = r as i64 + i64::from(rect.trailrow) + 1;
+            let last = r as i64 + i64::from(rect.leadrow);
+            let within = 0 < column && column < self.width as i64;
+            within && (first.max(0)..=last).any(|row| self.dead_at(row as usize, column as usize))
+        })
+    }
+
+    /// The sample is dead and counts as more than zero.
+    fn dead_at(&self, row: usize, column: usize) -> bool {
+        let sample = self.samples.get(row * self.width + column);
+        sample == Some(&DEAD) && self.at(row as i64, column as i64) > 0
     }
 
     /// The column sum of a rectangle before its cut: M cut samples of one column.
@@ -51,10 +78,10 @@ impl Strip<'_> {
     }
 }
 
-/// The lowest index of a sample above 2^b - 1.
+/// The lowest index of a live sample above 2^b - 1.
 pub fn first_above(table: &Table, samples: &[u16]) -> Option<u32> {
     let largest = largest_sample(table);
-    let index = samples.iter().position(|&s| s > largest);
+    let index = samples.iter().position(|&s| s != DEAD && s > largest);
     index.map(|i| i as u32)
 }
 

@@ -20,7 +20,7 @@ const NUMBERS: [(&str, &[u32]); 9] = [
 ];
 
 /// Situations that have to come up.
-const SIGHTS: [&str; 38] = [
+const SIGHTS: [&str; 44] = [
     "10 just passed",
     "10 just missed",
     "sixteen rectangles loaded",
@@ -59,6 +59,12 @@ const SIGHTS: [&str; 38] = [
     "burst refused in the middle",
     "burst packed behind waiting",
     "burst too long for its output",
+    "dead at column 0",
+    "run of dead",
+    "dead row",
+    "dead before the rectangle",
+    "65,535 in the store",
+    "burst with dead across rows",
 ];
 
 #[derive(Default)]

@@ -4,6 +4,7 @@ use std::fmt::Debug;
 
 use crate::engine::{self, KEPT};
 use crate::ffi::{self, Answer, Burst, Scan, Started, Table, DONE, REFUSED, ROW, WAITING};
+use crate::pixel::{last_live, DEAD};
 use crate::rng::Rng;
 use crate::tally::{same, Outcome, Tally};
 
@@ -216,7 +217,19 @@ impl<'a> Bench<'a> {
         self.agree("row", &library, &papers)?;
         self.tally.saw_if("row out", papers.kind == ROW);
         self.tally.saw_if("waiting", papers.kind == WAITING);
+        if papers.kind != REFUSED {
+            self.note_dead(row);
+        }
         Ok(papers)
+    }
+
+    /// The dead elements of a row that was taken.
+    fn note_dead(&mut self, row: &[u16]) {
+        let run = |s: &[u16]| s[0] != DEAD && s[1] == DEAD && s[2] == DEAD;
+        self.tally.saw_if("dead at column 0", row[0] == DEAD);
+        self.tally.saw_if("run of dead", row.windows(3).any(run));
+        let dead = row.iter().all(|&s| s == DEAD);
+        self.tally.saw_if("dead row", dead);
     }
 
     pub fn rows(&mut self, scan: &Scan, rows: &[u16]) -> Result<Burst, String> {
@@ -232,6 +245,12 @@ impl<'a> Bench<'a> {
         same("rows", &library, &papers)?;
         self.equal_after("rows")?;
         self.tally.answered("rows", papers.refusal);
+        if papers.taken > 1 {
+            let taken: Vec<&[u16]> = rows.chunks(scan.width).take(papers.taken).collect();
+            let across = |two: &[&[u16]]| last_live(two[0]) > 0 && two[1][0] == DEAD;
+            let across = taken.windows(2).any(across);
+            self.tally.saw_if("burst with dead across rows", across);
+        }
         Ok(papers)
     }
 

@@ -16,7 +16,7 @@ use Rattle.layout.proofs.Questions.{first-yes}
 use Rattle.arrival.specs.Arrivals.{arrivalAsks}
 use Rattle.arith.proofs.Parts.{line-end}
 use Rattle.scan.specs.declared.Scan.{Scan}
-use Rattle.scan.specs.Calls.{World, arrivalOf, dueSaid, takenIn, rowIn, rowAsks, rowOf}
+use Rattle.scan.specs.Calls.{World, rowArrival, dueSaid, takenIn, rowIn, rowAsks, rowOf}
 use Rattle.burst.specs.Bursts.{Progress, progress, isRefused, rowSaid, nextLeft, counted, feed}
 
 -- a burst is refused where its row is
@@ -29,12 +29,12 @@ row-refused s = go (isRefused s) refl
 
 -- a row that is not refused is taken, and is one of at most 65,535
 pub row-taken : (w : World) (row : List ℕ) (out : List ℤ) → isRefused (rowOf w row out .said) ≡ false
-    → (w .scan .rows < 65535) × (rowOf w row out ≡ takenIn w (rowIn (w .scan)) (arrivalOf w row) out)
+    → (w .scan .rows < 65535) × (rowOf w row out ≡ takenIn w (rowIn (w .scan)) (rowArrival w row) out)
 unfolding rowOf rowAsks
 row-taken w row out e =
     let r =
-    first-yes (λ x. isRefused (x .said)) (rowAsks (w .scan) row (length (w .samples)) (length (w .sums)) (length out) ++ arrivalAsks (arrivalOf w row))
-    (λ n p. left (refused n p) w out) (takenIn w (rowIn (w .scan)) (arrivalOf w row) out) (λ n p. refl) e in
+    first-yes (λ x. isRefused (x .said)) (rowAsks (w .scan) row (length (w .samples)) (length (w .sums)) (length out) ++ arrivalAsks (rowArrival w row))
+    (λ n p. left (refused n p) w out) (takenIn w (rowIn (w .scan)) (rowArrival w row) out) (λ n p. refl) e in
     (ltb-true (w .scan .rows) 65535 (r .0 .1 .1 .0), r .1)
 
 -- at most one filtered row comes out of it

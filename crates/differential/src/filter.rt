@@ -56,7 +56,7 @@ fn covered(offset: usize, lead: i8, trail: i8) -> bool
     o <= raised_byte(lead)
 }
 
-// The sample at row - 15, column - 15; 0 outside the scan. A place below 0 is far past the end.
+// The sample at row - 15, column - 15, mended; 0 outside the scan. A place below 0 is far past the end.
 fn sample(scan: &[u16; 65536], v: View, row: usize, col: usize) -> usize
     requires { ⌜ (v .width ≤ 1024) × (v .height ≤ 64) ⌝ }
     ensures { λ r. ⌜ r ≤ 65535 ⌝ }
@@ -69,7 +69,23 @@ fn sample(scan: &[u16; 65536], v: View, row: usize, col: usize) -> usize
     if v.width <= c {
         return 0;
     }
-    wide(scan[place(r, v.width, c)])
+    mended(scan, v.width, r, c)
+}
+
+// The first live sample of row r from column c to the left; 0 where there is none. A dead element is sent as 65,535.
+fn mended(scan: &[u16; 65536], width: usize, r: usize, c: usize) -> usize
+    requires { ⌜ (r ≤ 63) × (width ≤ 1024) × (c ≤ 1023) ⌝ }
+    ensures { λ r. ⌜ r ≤ 65535 ⌝ }
+{
+    let mut back = 0;
+    while back <= c {
+        let x = wide(scan[place(r, width, c - back)]);
+        if x < 65535 {
+            return x;
+        }
+        back += 1;
+    }
+    0
 }
 
 fn wide(x: u16) -> usize

@@ -28,15 +28,32 @@ fn level(x: u64, bright: u64, b: u8) -> u16 {
     ((s >> (16 - b % 16)) % 65536) as u16
 }
 
-// Samples below 2^b from a seed; for a sixth of the seeds the largest.
+// A sample as the sensor sends it: 65,535 where this element failed, as `dead` of sixteen do.
+fn sent(x: u64, dead: u64, sample: u16) -> u16 {
+    if (x >> 3) % 16 < dead { 65535 } else { sample }
+}
+
+// How many elements of sixteen are dead: none for half of the seeds, else 1, 4, 9 or all.
+fn dead_of(seed: u64) -> u64 {
+    match draw(seed, 206, 7) {
+        4 => 1,
+        5 => 4,
+        6 => 9,
+        7 => 16,
+        _ => 0,
+    }
+}
+
+// Samples below 2^b from a seed, for a sixth of the seeds the largest, with dead elements among them.
 fn samples(seed: u64, b: u8) -> [u16; 65536] {
     let mut given = [0u16; 65536];
     let bright = draw(seed, 205, 5) / 5 * 65535;
+    let dead = dead_of(seed);
     let mut x = seed;
     let mut i = 0;
     while i < 65536 {
         x = next(x);
-        given[i] = level(x, bright, b);
+        given[i] = sent(x, dead, level(x, bright, b));
         i += 1;
     }
     given
@@ -79,22 +96,35 @@ fn task_of(t: Table, seed: u64) -> Task
     }
 }
 
-fn counted(n: &mut [u64; 18], k: Task) {
+fn counted(n: &mut [u64; 19], k: Task) {
     counts::scan(n, k.height, k.delay);
     count(n, counts::DROPS, filter::has_drops(k.table));
     count(n, counts::BEHIND, filter::first_behind(k.table));
 }
 
+// The dead elements of a scan.
+fn count_dead(n: &mut [u64; 19], given: &[u16; 65536], k: Task)
+    requires { ⌜ (k .width ≤ 1024) × (k .height ≤ 64) ⌝ }
+{
+    let end = k.width * k.height;
+    let mut i = 0;
+    while i < end {
+        count(n, counts::DEAD, given[i] == 65535);
+        i += 1;
+    }
+}
+
 // A table with a scan of its own.
-fn scanned(n: &mut [u64; 18], t: Table, seed: u64) {
+fn scanned(n: &mut [u64; 19], t: Table, seed: u64) {
     let k = task_of(t, seed);
     counted(n, k);
     let given = samples(seed, t.b);
+    count_dead(n, &given, k);
     runs::run(n, k, &given);
 }
 
 // The table of a seed.
-fn one(n: &mut [u64; 18], seed: u64) {
+fn one(n: &mut [u64; 19], seed: u64) {
     let l = table_of(seed);
     let v = l.verdict;
     match v {
@@ -103,7 +133,7 @@ fn one(n: &mut [u64; 18], seed: u64) {
     }
 }
 
-fn all(n: &mut [u64; 18]) {
+fn all(n: &mut [u64; 19]) {
     let mut i = 0;
     while i < TABLES {
         one(n, mixed(i ^ 88172645463325252));
@@ -112,7 +142,7 @@ fn all(n: &mut [u64; 18]) {
 }
 
 fn main() {
-    let mut n = [0u64; 18];
+    let mut n = [0u64; 19];
     all(&mut n);
     counts::put(&n);
 }

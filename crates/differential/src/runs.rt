@@ -65,7 +65,7 @@ fn due(height: usize, delay: usize, i: usize) -> usize
 }
 
 // Filtered row r against the filter beside the engine.
-fn compared(n: &mut [u64; 18], k: Task, given: &[u16; 65536], r: usize, out: &[i32; 1024])
+fn compared(n: &mut [u64; 19], k: Task, given: &[u16; 65536], r: usize, out: &[i32; 1024])
     requires { ⌜ (k .width ≤ 1024) × (k .height ≤ 64) ⌝ }
 {
     let t = k.table;
@@ -88,7 +88,7 @@ fn compared(n: &mut [u64; 18], k: Task, given: &[u16; 65536], r: usize, out: &[i
 
 // The answer to arrival i.
 fn judged(
-    n: &mut [u64; 18],
+    n: &mut [u64; 19],
     k: Task,
     given: &[u16; 65536],
     i: usize,
@@ -171,7 +171,7 @@ fn arrival(
 }
 
 // A whole scan: started, its rows given, closed, and two steps more than the delay.
-pub fn run(n: &mut [u64; 18], k: Task, given: &[u16; 65536])
+pub fn run(n: &mut [u64; 19], k: Task, given: &[u16; 65536])
     requires { ⌜ (k .width ≤ 1024) × (k .height ≤ 64) × (k .delay ≤ 128) ⌝ }
 {
     let mut kept = [7u16; 32768];

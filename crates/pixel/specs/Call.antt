@@ -7,7 +7,7 @@ use lib.IntN.{pos}
 use Rattle.layout.specs.declared.Table.{Table}
 use Rattle.layout.specs.Answers.{Said, refused, accepted, Question, asks, asksEach, firstNo}
 use Rattle.limits.specs.Limits.{acceptable}
-use Rattle.rule.specs.Questions.{widthGood, heightGood, placeGood, atMost}
+use Rattle.rule.specs.Questions.{widthGood, heightGood, placeGood, sampleGood}
 use Rattle.rule.specs.Sums.{sampleAt}
 use Rattle.rule.specs.Pixels.{pixelOf}
 use Rattle.pixel.specs.declared.Found.{Found}
@@ -25,7 +25,7 @@ pixelAsks t l xs r c =
     ∷ asks 12 (widthGood l)
     ∷ asks 17 (heightGood l (length xs))
     ∷ asks 20 (placeGood l (length xs) r c)
-    ∷ asksEach 18 (length xs) (atMost (2 ^ t .b - 1) xs)
+    ∷ asksEach 18 (length xs) (sampleGood (2 ^ t .b - 1) xs)
     ∷ []
 
 -- what it says: the refusal, or the pixel

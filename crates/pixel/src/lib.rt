@@ -18,7 +18,7 @@ pub enum Found {
 }
 
 // The pixel at row r, column c of a scan of rows of `width` samples: questions 11, 12, 17, 20 and 18, then the
-// pixel rule. Only question 18 looks at more than the covered samples.
+// pixel rule. Only question 18 looks at more than the covered samples, and a dead sample to its left in its row.
 pub fn pixel(t: Table, width: usize, samples: &[u16], r: usize, c: usize) -> Found
     ensures { λ f. ⌜ foundSaid f ≡ pixelAnswer t width (now (samples .entry)) r c ⌝ }
 {

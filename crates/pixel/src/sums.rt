@@ -1,9 +1,11 @@
 // The sums of one rectangle, over the covered samples. Rows and columns are counted in a frame with a margin of 128, in
 // which they stay natural: place p of the frame is p - 128 of the scan.
 ghost use mathlib.Core.Path.{_≡_};
-ghost use Prim.Native.Nat.{_+_, _*_, _/_, _^_, _≤_, _<_};
+ghost use Prim.Native.Nat.{_+_, _-_, _*_, _/_, _^_, _≤_, _<_};
 ghost use lib.IntN.{subℕ, pos};
+ghost use lib.ListN.{length, getD};
 ghost use Rattle.arith.specs.Sum.{sum};
+ghost use Rattle.rule.specs.Mended.{mendedAt};
 ghost use Rattle.rule.specs.Sums.{sampleAt, windowSum};
 use arith::biased_byte;
 use layout::Rect;
@@ -11,7 +13,25 @@ use layout::Table;
 use layout::columns;
 use layout::rows;
 
-// The sample at a place of the frame, 0 outside the scan.
+// The sample at a place of the row that begins at `base`, mended: the first live one from there to the left in that row,
+// 0 where there is none.
+fn live(samples: &[u16], base: usize, at: usize) -> u16
+    requires { ⌜ (base ≤ at) × (at < length (now samples)) ⌝ }
+    ensures { λ s. ⌜ s ≡ mendedAt (λ k. getD (now (samples .entry)) (base + k) 0) (at - base) ⌝ }
+{
+    let mut k = at;
+    while base < k {
+        let x = samples[k];
+        if x != 65535 {
+            return x;
+        }
+        k -= 1;
+    }
+    let x = samples[base];
+    if x != 65535 { x } else { 0 }
+}
+
+// The sample at a place of the frame, mended, 0 outside the scan.
 fn sample(samples: &[u16], width: usize, row: usize, col: usize) -> u16
     requires { ⌜ (width ≤ 1024) × (row ≤ 1048576) ⌝ }
     ensures { λ s. ⌜ s ≡ sampleAt width (now (samples .entry)) (subℕ row 128) (subℕ col 128) ⌝ }
@@ -25,11 +45,12 @@ fn sample(samples: &[u16], width: usize, row: usize, col: usize) -> u16
     if width <= col - 128 {
         return 0;
     }
-    let at = (row - 128) * width + (col - 128);
+    let base = (row - 128) * width;
+    let at = base + (col - 128);
     if samples.len() <= at {
         return 0;
     }
-    samples[at]
+    live(samples, base, at)
 }
 
 // The sum of m samples of a column from row `top` on, each divided by 2^q1.

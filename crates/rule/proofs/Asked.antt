@@ -3,7 +3,7 @@
 use Prim.Native.Nat.{ℕ, _+_, _-_, _*_, _/_, _^_, _≤_, _<_, zero-le}
 use native.Mathlib.Nat.{mul-le-mul}
 use native.Mathlib.Omega.{arith}
-use mathlib.Core.Path.{_≡_, refl, sym, subst}
+use mathlib.Core.Path.{_≡_, sym, subst}
 use mathlib.Core.Bool.{Bool, true, false, not, cond, _&&_}
 use mathlib.Core.List.{List}
 use lib.ListN.{length, getD, List·getD-eq-default}
@@ -12,8 +12,10 @@ use lib.Dec.{T, leb, ltb, eqb, leb→le, ltb→lt, nltb→le, eqb→eq}
 use mir.Facts.{and-yes}
 use Rattle.arith.specs.All.{all}
 use Rattle.arith.proofs.Alls.{all-at}
-use Rattle.rule.specs.Questions.{widthGood, heightGood, placeGood, atMost}
+use Rattle.rule.specs.Mended.{mendedAt}
+use Rattle.rule.specs.Questions.{widthGood, heightGood, placeGood, sampleGood}
 use Rattle.rule.specs.Sums.{HasBits, sampleAt}
+use Rattle.rule.proofs.Mended.{small-good, mended-most}
 
 pub width-bounds : {l : ℕ} → widthGood l ≡ true → (1 ≤ l) × (l ≤ 1024)
 unfolding widthGood
@@ -40,17 +42,19 @@ pub place-bounds : (l n r c : ℕ) → placeGood l n r c ≡ true → (r < n / l
 unfolding placeGood
 place-bounds l n r c e = let h = and-yes (ltb r (n / l)) (ltb c l) (subst T (sym e) tt) in (ltb→lt _ _ (h .0), ltb→lt _ _ (h .1))
 
--- a scan that question 18 accepts has samples of b bits
-pub has-bits : (b l : ℕ) (xs : List ℕ) → T (all (length xs) (atMost (2 ^ b - 1) xs)) → HasBits b (sampleAt l xs)
+-- a scan that question 18 accepts has samples of b bits, mended
+pub has-bits : (b l : ℕ) (xs : List ℕ) → T (all (length xs) (sampleGood (2 ^ b - 1) xs)) → HasBits b (sampleAt l xs)
 unfolding sampleAt
 has-bits b l xs h (pos i) (pos j) = within (ltb j l)
   where
-    at : (k : ℕ) (c : Bool) → (T c → k < length xs) → (T (not c) → length xs ≤ k) → getD xs k 0 ≤ 2 ^ b - 1
-    at k true f g = leb→le (getD xs k 0) (2 ^ b - 1) (all-at (length xs) (atMost (2 ^ b - 1) xs) h k (f tt))
-    at k false f g = rw (List·getD-eq-default xs 0 {n = k} (g tt)) zero-le
+    at : (k : ℕ) (c : Bool) → (T c → k < length xs) → (T (not c) → length xs ≤ k) → T (sampleGood (2 ^ b - 1) xs k)
+    at k true f g = all-at (length xs) (sampleGood (2 ^ b - 1) xs) h k (f tt)
+    at k false f g = rw (List·getD-eq-default xs 0 {n = k} (g tt)) (small-good {x = 0} {m = 2 ^ b - 1} zero-le)
 
-    within : (c : Bool) → cond c (getD xs (i * l + j) 0) 0 ≤ 2 ^ b - 1
-    within true = at (i * l + j) (ltb (i * l + j) (length xs)) (ltb→lt (i * l + j) (length xs)) (nltb→le (i * l + j) (length xs))
+    within : (c : Bool) → cond c (mendedAt (λ k. getD xs (i * l + k) 0) j) 0 ≤ 2 ^ b - 1
+    within true =
+        mended-most (λ k. getD xs (i * l + k) 0) (2 ^ b - 1) j
+        (λ k p. at (i * l + k) (ltb (i * l + k) (length xs)) (ltb→lt (i * l + k) (length xs)) (nltb→le (i * l + k) (length xs)))
     within false = zero-le
 has-bits b l xs h (pos i) (negsuc j) = zero-le
 has-bits b l xs h (negsuc i) j = zero-le

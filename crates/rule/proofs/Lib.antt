@@ -1,3 +1,4 @@
+pub mod Mended
 pub mod Dropped
 pub mod Accurate
 pub mod Fitting

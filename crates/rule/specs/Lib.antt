@@ -1,3 +1,4 @@
+pub mod Mended
 pub mod Sums
 pub mod Cover
 pub mod Steps

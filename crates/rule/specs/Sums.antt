@@ -10,8 +10,9 @@ use Rattle.arith.specs.Sum.{sum}
 use Rattle.layout.specs.declared.Rect.{Rect}
 use Rattle.layout.specs.declared.Table.{Table}
 use Rattle.layout.specs.Measure.{rowsOf, colsOf}
+use Rattle.rule.specs.Mended.{mendedAt}
 
--- an image: the sample of a scan at a row and a column, 0 outside
+-- an image: the sample of a scan at a row and a column, mended, 0 outside
 abbrev pub Image : Type 0
 Image = ℤ → ℤ → ℕ
 
@@ -19,9 +20,9 @@ Image = ℤ → ℤ → ℕ
 abbrev pub HasBits : (b : ℕ) → Image → Type 0
 HasBits b x = (i j : ℤ) → x i j ≤ 2 ^ b - 1
 
--- the scan whose rows of l samples stand in xs one after the other; after the last row xs has ended
+-- the scan whose rows of l samples stand in xs one after the other, each row mended by itself; after the last row xs has ended
 unfoldable pub sampleAt : (l : ℕ) → List ℕ → Image
-sampleAt l xs (pos i) (pos j) = cond (ltb j l) (getD xs (i * l + j) 0) 0
+sampleAt l xs (pos i) (pos j) = cond (ltb j l) (mendedAt (λ k. getD xs (i * l + k) 0) j) 0
 sampleAt l xs (pos i) (negsuc j) = 0
 sampleAt l xs (negsuc i) j = 0
 

@@ -21,7 +21,7 @@ use Rattle.layout.proofs.Questions.{each-way}
 use Rattle.limits.specs.Limits.{acceptable}
 use Rattle.table.specs.Format.{Bytes, refused as noTable, loaded, loadOf, tableFrom}
 use Rattle.table.proofs.Theorems.{loaded-accepted, refused-table}
-use Rattle.rule.specs.Questions.{widthGood, heightGood, placeGood, atMost}
+use Rattle.rule.specs.Questions.{widthGood, heightGood, placeGood, sampleGood}
 use Rattle.rule.specs.Pixels.{pixelOf}
 use Rattle.rule.proofs.Asked.{width-bounds}
 use Rattle.pixel.specs.Call.{pixelAsks, pixelAnswer}
@@ -69,7 +69,7 @@ pixel-agrees t l rows ok wide h few r c p q =
       le-leb (length rows) 65535 few,
       lt-ltb r (length rows) p,
       lt-ltb c l q,
-      true-of (all (length (flat rows)) (atMost (2 ^ t .b - 1) (flat rows))) (flat-bits l (t .b) rows h),
+      true-of (all (length (flat rows)) (sampleGood (2 ^ t .b - 1) (flat rows))) (flat-bits l (t .b) rows h),
     )
     refl
 

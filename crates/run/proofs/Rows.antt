@@ -4,9 +4,9 @@ use Prim.Native.Nat.{ℕ, zero, suc, _+_, _-_, _*_, _^_, _≤_, _<_, zero-le}
 use native.Mathlib.Nat.{not-suc-le-zero, mul-le-mul-right}
 use native.Mathlib.Omega.{arith}
 use mathlib.Core.Path.{_≡_, refl, sym, ap, _∙_, subst}
-use mathlib.Core.Bool.{Bool, true, false, not, cond, _&&_}
+use mathlib.Core.Bool.{Bool, true, false, not, cond}
 use mathlib.Core.List.{List, [], _∷_, _++_, append-assoc}
-use lib.Dec.{T, leb, ltb, eqb, eqb→eq, leb→le, le→leb, ltb→lt, nltb→le}
+use lib.Dec.{T, ltb, eqb, eqb→eq, ltb→lt, nltb→le}
 use lib.IntN.{ℤ, pos, negsuc}
 use lib.ListN.{length, getD, length-append, List·getD-append, List·getD-eq-default}
 use lib.Seq.{getD-append-add}
@@ -14,23 +14,25 @@ use mir.Facts.{and-yes, yes-and}
 use borrow.Author.Tests.{lt-ltb, le-ltb}
 use Rattle.arith.specs.All.{all}
 use Rattle.arith.proofs.Alls.{all-at, all-of}
+use Rattle.rule.specs.Mended.{mendedAt, mended}
 use Rattle.rule.proofs.Asked.{has-bits}
-use Rattle.rule.specs.Questions.{atMost}
-use Rattle.rule.specs.Sums.{HasBits, sampleAt}
+use Rattle.rule.proofs.Mended.{small-good, mended-zero, mended-cong, getD-mended}
+use Rattle.rule.specs.Questions.{sampleGood}
+use Rattle.rule.specs.Sums.{sampleAt}
 use Rattle.run.specs.Rows.{flat, scanned, goodRows}
 use Rattle.run.proofs.Arrives.{Lies}
 
 -- rows that are good
 pub record Good (l b : ℕ) (row : List ℕ) (rows : List (List ℕ)) : Type 0 where
   pub long : length row ≡ l
-  pub small : T (all (length row) (atMost (2 ^ b - 1) row))
+  pub small : T (all (length row) (sampleGood (2 ^ b - 1) row))
   pub rest : T (goodRows l b rows)
 
 pub good : (l b : ℕ) (row : List ℕ) (rows : List (List ℕ)) → T (goodRows l b (row ∷ rows)) → Good l b row rows
 unfolding goodRows
 good l b row rows h =
     let a = and-yes (eqb (length row) l) _ h in
-    let c = and-yes (all (length row) (atMost (2 ^ b - 1) row)) (goodRows l b rows) (a .1) in
+    let c = and-yes (all (length row) (sampleGood (2 ^ b - 1) row)) (goodRows l b rows) (a .1) in
     record { long = eqb→eq (length row) l (a .0); small = c .0; rest = c .1 }
 
 pub flat-length : (l b : ℕ) (rows : List (List ℕ)) → T (goodRows l b rows) → length (flat rows) ≡ length rows * l
@@ -60,25 +62,24 @@ flat-at l b (row ∷ rows) h (suc i) c p q =
     flat-at l b rows (g .rest) i c (omega arith) q
     ∙ sym (ap (λ k. getD (row ++ flat rows) k 0) e ∙ getD-append-add row (flat rows) (i * l + c) 0)
 
--- every sample of the flat list has b bits
-flat-small : (l b : ℕ) (rows : List (List ℕ)) → T (goodRows l b rows) → (k : ℕ) → getD (flat rows) k 0 ≤ 2 ^ b - 1
+-- question 18 accepts every sample of the flat list
+flat-good : (l b : ℕ) (rows : List (List ℕ)) → T (goodRows l b rows) → (k : ℕ) → T (sampleGood (2 ^ b - 1) (flat rows) k)
 unfolding flat
-flat-small l b [] h k = zero-le
-flat-small l b (row ∷ rows) h k = go (flat-small l b rows (g .rest)) (ltb k (length row)) (ltb→lt k (length row)) (nltb→le k (length row))
+flat-good l b [] h k = small-good {x = 0} {m = 2 ^ b - 1} zero-le
+flat-good l b (row ∷ rows) h k = go (flat-good l b rows (g .rest)) (ltb k (length row)) (ltb→lt k (length row)) (nltb→le k (length row))
   where
     g : Good l b row rows
     g = good l b row rows h
 
-    go : ((k : ℕ) → getD (flat rows) k 0 ≤ 2 ^ b - 1) → (q : Bool) → (T q → k < length row) → (T (not q) → length row ≤ k) → getD (row ++ flat rows) k 0 ≤ 2 ^ b - 1
-    go more true y n =
-        rw (List·getD-append row (flat rows) 0 k (y tt)) (leb→le (getD row k 0) (2 ^ b - 1) (all-at (length row) (atMost (2 ^ b - 1) row) (g .small) k (y tt)))
+    go : ((k : ℕ) → T (sampleGood (2 ^ b - 1) (flat rows) k)) → (q : Bool) → (T q → k < length row) → (T (not q) → length row ≤ k) → T (sampleGood (2 ^ b - 1) (row ++ flat rows) k)
+    go more true y n = rw (List·getD-append row (flat rows) 0 k (y tt)) (all-at (length row) (sampleGood (2 ^ b - 1) row) (g .small) k (y tt))
     go more false y n =
         let m = n tt in
         let e : k ≡ length row + (k - length row) = omega arith in
-        subst (λ i. getD (row ++ flat rows) i 0 ≤ 2 ^ b - 1) (sym e) (rw (getD-append-add row (flat rows) (k - length row) 0) (more (k - length row)))
+        subst (λ i. T (sampleGood (2 ^ b - 1) (row ++ flat rows) i)) (sym e) (rw (getD-append-add row (flat rows) (k - length row) 0) (more (k - length row)))
 
-pub flat-bits : (l b : ℕ) (rows : List (List ℕ)) → T (goodRows l b rows) → T (all (length (flat rows)) (atMost (2 ^ b - 1) (flat rows)))
-flat-bits l b rows h = all-of (length (flat rows)) (atMost (2 ^ b - 1) (flat rows)) (λ k p. le→leb (getD (flat rows) k 0) (2 ^ b - 1) (flat-small l b rows h k))
+pub flat-bits : (l b : ℕ) (rows : List (List ℕ)) → T (goodRows l b rows) → T (all (length (flat rows)) (sampleGood (2 ^ b - 1) (flat rows)))
+flat-bits l b rows h = all-of (length (flat rows)) (sampleGood (2 ^ b - 1) (flat rows)) (λ k p. flat-good l b rows h k)
 
 -- the scan of good rows
 pub rows-lie : (l b : ℕ) (rows : List (List ℕ)) → T (goodRows l b rows) → Lies l b (sampleAt l (flat rows))
@@ -94,22 +95,30 @@ rows-lie l b rows h =
     right (pos i) j q = rw (le-ltb j l q) refl
     right (negsuc i) j q = refl
 
--- row i of the scan, and darkness below the last row
+row-long : (l b : ℕ) (rows : List (List ℕ)) → T (goodRows l b rows) → (i : ℕ) → i < length rows → length (getD rows i []) ≡ l
+row-long l b [] h i p = absurd (not-suc-le-zero p)
+row-long l b (row ∷ rows) h zero p = good l b row rows h .long
+row-long l b (row ∷ rows) h (suc i) p = row-long l b rows (good l b row rows h .rest) i (omega arith)
+
+-- row i of the scan is the row given, mended
 pub row-at :
     (l b : ℕ) (rows : List (List ℕ)) → T (goodRows l b rows) → (i c : ℕ) → i < length rows → c < l
-    → getD (getD rows i []) c 0 ≡ sampleAt l (flat rows) (pos i) (pos c)
+    → getD (mended (getD rows i [])) c 0 ≡ scanned l rows (pos i) (pos c)
 unfolding sampleAt
-row-at l b rows h i c p q = rw (lt-ltb c l q) (flat-at l b rows h i c p q)
+row-at l b rows h i c p q =
+    let n = row-long l b rows h i p in
+    rw (lt-ltb c l q) (getD-mended (getD rows i []) c (omega arith) ∙ mended-cong _ _ c (λ k m. flat-at l b rows h i k p (omega arith)))
 
+-- darkness below the last row
 pub below : (l b : ℕ) (rows : List (List ℕ)) → T (goodRows l b rows) → (i c : ℕ) → length rows ≤ i → sampleAt l (flat rows) (pos i) (pos c) ≡ 0
 unfolding sampleAt
 below l b rows h i c p = go (ltb c l)
   where
-    go : (q : Bool) → cond q (getD (flat rows) (i * l + c) 0) 0 ≡ 0
+    go : (q : Bool) → cond q (mendedAt (λ k. getD (flat rows) (i * l + k) 0) c) 0 ≡ 0
     go true =
         let n = flat-length l b rows h in
         let m = mul-le-mul-right l p in
-        List·getD-eq-default (flat rows) 0 {n = i * l + c} (omega arith)
+        mended-zero (λ k. getD (flat rows) (i * l + k) 0) c (List·getD-eq-default (flat rows) 0 {n = i * l + c} (omega arith))
     go false = refl
 
 -- ---- rows after rows
@@ -124,10 +133,10 @@ unfolding goodRows
 good-append l b [] more h g = g
 good-append l b (row ∷ rows) more h g =
     let a = and-yes (eqb (length row) l) _ h in
-    let c = and-yes (all (length row) (atMost (2 ^ b - 1) row)) (goodRows l b rows) (a .1) in
-    yes-and (eqb (length row) l) _ (a .0) (yes-and (all (length row) (atMost (2 ^ b - 1) row)) _ (c .0) (good-append l b rows more (c .1) g))
+    let c = and-yes (all (length row) (sampleGood (2 ^ b - 1) row)) (goodRows l b rows) (a .1) in
+    yes-and (eqb (length row) l) _ (a .0) (yes-and (all (length row) (sampleGood (2 ^ b - 1) row)) _ (c .0) (good-append l b rows more (c .1) g))
 
-pub good-one : (l b : ℕ) (row : List ℕ) → eqb (length row) l ≡ true → all (length row) (atMost (2 ^ b - 1) row) ≡ true → T (goodRows l b (row ∷ []))
+pub good-one : (l b : ℕ) (row : List ℕ) → eqb (length row) l ≡ true → all (length row) (sampleGood (2 ^ b - 1) row) ≡ true → T (goodRows l b (row ∷ []))
 unfolding goodRows
 good-one l b row e f = rw (e, f) tt
 
@@ -138,22 +147,26 @@ module _ (l b : ℕ) (rows more : List (List ℕ)) (h : T (goodRows l b rows)) w
   more-agrees e (negsuc j) p = refl
   more-agrees e (pos j) p = go (ltb j l) (ltb→lt j l)
     where
-      go : (y : Bool) → (T y → j < l) → cond y (getD (flat rows) (e * l + j) 0) 0 ≡ cond y (getD (flat (rows ++ more)) (e * l + j) 0) 0
+      go : (y : Bool) → (T y → j < l)
+          → cond y (mendedAt (λ k. getD (flat rows) (e * l + k) 0) j) 0 ≡ cond y (mendedAt (λ k. getD (flat (rows ++ more)) (e * l + k) 0) j) 0
       go true q =
           let n = flat-length l b rows h in
-          let k = mul-le-mul-right l p in
+          let m = mul-le-mul-right l p in
           let i = q tt in
-          rw (flat-append rows more) (sym (List·getD-append (flat rows) (flat more) 0 (e * l + j) (omega arith)))
+          mended-cong _ _ j (λ k r. rw (flat-append rows more) (sym (List·getD-append (flat rows) (flat more) 0 (e * l + k) (omega arith))))
       go false q = refl
 
   pub more-above : (i : ℕ) (j : ℤ) → scanned l rows (negsuc i) j ≡ scanned l (rows ++ more) (negsuc i) j
   unfolding sampleAt
   more-above i j = refl
 
--- the last of the rows
+-- the last of the rows, mended
 pub last-row : (l b : ℕ) (rows : List (List ℕ)) (row : List ℕ) → T (goodRows l b rows) → length row ≡ l → (c : ℕ) → c < l
-    → getD row c 0 ≡ scanned l (rows ++ (row ∷ [])) (pos (length rows)) (pos c)
+    → getD (mended row) c 0 ≡ scanned l (rows ++ (row ∷ [])) (pos (length rows)) (pos c)
 unfolding sampleAt flat
 last-row l b rows row h long c q =
-    let e : length rows * l + c ≡ length (flat rows) + c = ap (λ n. n + c) (sym (flat-length l b rows h)) in
-    rw (lt-ltb c l q, flat-append rows (row ∷ []), e, getD-append-add (flat rows) (row ++ []) c 0) (sym (List·getD-append row [] 0 c (omega arith)))
+    rw (lt-ltb c l q)
+    (getD-mended row c (omega arith)
+    ∙ mended-cong _ _ c (λ k m.
+    let e : length rows * l + k ≡ length (flat rows) + k = ap (λ n. n + k) (sym (flat-length l b rows h)) in
+    rw (flat-append rows (row ∷ []), e, getD-append-add (flat rows) (row ++ []) k 0) (sym (List·getD-append row [] 0 k (omega arith)))))

@@ -20,19 +20,22 @@ use Rattle.layout.specs.Sequences.{reply, replyOf, replies, ended}
 use Rattle.layout.proofs.Questions.{AllYes, same-questions, first-append}
 use Rattle.layout.proofs.Sequences.{simulates}
 use Rattle.limits.specs.Limits.{acceptable}
+use Rattle.rule.specs.Mended.{mended}
 use Rattle.rule.specs.Questions.{widthGood}
 use Rattle.rule.specs.Sums.{Image, sampleAt}
 use Rattle.rule.specs.Pixels.{pixelOf}
+use Rattle.rule.proofs.Mended.{length-mended}
 use Rattle.arrival.specs.Arrivals.{Arrival, storesGood, sumGood, arrivalAsks, samplesAfter, sumsAfter, outputAfter, pixelAt}
 use Rattle.scan.specs.declared.Scan.{Scan}
-use Rattle.scan.specs.Calls.{World, world, agrees, lentGood, startAsks, startOf, arrivalOf, dueSaid, takenIn, rowIn, rowAsks, rowOf, shut, closeOf, stepIn, closingOf, stepOf}
+use Rattle.scan.specs.Calls.{World, world, agrees, lentGood, startAsks, startOf, arrivalOf, rowArrival, dueSaid, takenIn, rowIn, rowAsks, rowOf, shut, closeOf, stepIn, closingOf, stepOf}
 use Rattle.burst.specs.Bursts.{progress, feed, allRows, noRows, burstAsks, burstOf}
 use Rattle.run.specs.Rows.{scanned, goodRows}
+use Rattle.ring.specs.Ring.{Kept}
 use Rattle.run.specs.Holds.{Starts, Stores}
 use Rattle.run.specs.Sequences.{Call, rowCall, rowsCall, closeCall, stepCall, engine, Machine, machine, dueLeft, machineAsks, withRow, machineRow, machineRows, machineClose, machineStep, answers, started}
 use Rattle.run.proofs.Arrives.{Lies, Finds}
 use Rattle.run.proofs.Stores.{finds, all-good, stores-next, output-due}
-use Rattle.run.proofs.Rows.{rows-lie, below, good-append, good-one, more-agrees, more-above, last-row}
+use Rattle.run.proofs.Rows.{rows-lie, row-at, below, good-append, good-one, more-agrees, more-above, last-row}
 use Rattle.run.proofs.Starts.{stores-none, stores-agree}
 use Rattle.run.proofs.Alike.{Matches, feed-alike, left-alike}
 
@@ -171,7 +174,7 @@ module _ (m : Machine) (samples sums : List ℕ) (f : Fair m) (st : Holds m samp
     lies′ : Lies (m .width) (m .table .b) x′
     lies′ = rows-lie (m .width) (m .table .b) more (known .good)
 
-    is′ : (c : ℕ) → c < m .width → getD row c 0 ≡ x′ (pos (length (m .rows) + m .steps)) (pos c)
+    is′ : (c : ℕ) → c < m .width → getD (mended row) c 0 ≡ x′ (pos (length (m .rows) + m .steps)) (pos c)
     is′ c q = last-row (m .width) (m .table .b) (m .rows) row (f .good) (known .long) c q ∙ ap (λ k. x′ (pos k) (pos c)) (sym at-row)
 
     found′ : Stores (m .table) (m .width) x′ (length (m .rows) + m .steps) samples sums
@@ -180,32 +183,32 @@ module _ (m : Machine) (samples sums : List ℕ) (f : Fair m) (st : Holds m samp
         (more-above (m .width) (m .table .b) (m .rows) (row ∷ []) (f .good))
         (λ e j p. more-agrees (m .width) (m .table .b) (m .rows) (row ∷ []) (f .good) e j (let z = known .unstepped in omega arith)) st
 
-    pub row-finds : Finds x′ (arrivalOf here row)
-    row-finds = finds (m .table) (m .width) x′ (length (m .rows) + m .steps) row samples sums (f .table) lies′ is′ found′
+    pub row-finds : Finds x′ (rowArrival here row)
+    row-finds = finds (m .table) (m .width) x′ (length (m .rows) + m .steps) (mended row) samples sums (f .table) lies′ is′ found′
 
-    taken : Agree (takenIn here (rowIn (stateOf m)) (arrivalOf here row) out) (dueLeft (m .table) (m .width) x′ (length (m .rows)) out (withRow m row))
+    taken : Agree (takenIn here (rowIn (stateOf m)) (rowArrival here row) out) (dueLeft (m .table) (m .width) x′ (length (m .rows)) out (withRow m row))
     taken =
         let k = known in
         let n : length more ≡ length (m .rows) + 1 = length-append (m .rows) (row ∷ []) in
         let less = k .less in
         let e : length (m .rows) + m .steps + 1 ≡ length more + m .steps = omega arith in
-        subst (λ i. Agree (takenIn here (rowIn (stateOf m)) (arrivalOf here row) out) (dueLeft (m .table) (m .width) x′ i out (withRow m row))) at-row
-        (arrives x′ row out lies′ is′ found′ (rowIn (stateOf m)) (withRow m row) record {
+        subst (λ i. Agree (takenIn here (rowIn (stateOf m)) (rowArrival here row) out) (dueLeft (m .table) (m .width) x′ i out (withRow m row))) at-row
+        (arrives x′ (mended row) out lies′ is′ found′ (rowIn (stateOf m)) (withRow m row) record {
           fair = record { table = f .table; width = f .width; good = k .good; few = omega arith; most = f .most; unstepped = f .unstepped };
           scan = ap (λ (i : ℕ). record { table = m .table; width = m .width; rows = i; steps = m .steps; closed = m .closed }) (sym n);
-          stores = subst (λ i. Stores (m .table) (m .width) x′ i (samplesAfter (arrivalOf here row)) (sumsAfter (arrivalOf here row))) e (next x′ row out lies′ is′ found′ (k .long));
+          stores = subst (λ i. Stores (m .table) (m .width) x′ i (samplesAfter (rowArrival here row)) (sumsAfter (rowArrival here row))) e (next x′ (mended row) out lies′ is′ found′ (length-mended row ∙ k .long));
         })
 
-    refused-never : all (m .table .count) (λ k. all (m .width) (sumGood (arrivalOf here row) k)) ≡ true
-    refused-never = says x′ row out lies′ is′ found′
+    refused-never : all (m .table .count) (λ k. all (m .width) (sumGood (rowArrival here row) k)) ≡ true
+    refused-never = says x′ (mended row) out lies′ is′ found′
 
   row-case : (row : List ℕ) (out : List ℤ) → Agree (rowOf here row out) (machineRow m row out)
   unfolding rowOf rowAsks arrivalAsks machineRow machineAsks
   row-case row out =
       rw (state-good, lent-good (length out))
       (same-questions Agree (machineAsks m row (length out)) (halt out)
-      (cond (all (m .table .count) (λ k. all (m .width) (sumGood (arrivalOf here row) k))) (takenIn here (rowIn (stateOf m)) (arrivalOf here row) out)
-      (halt out 19 (firstNot (m .table .count) (λ k. all (m .width) (sumGood (arrivalOf here row) k)))))
+      (cond (all (m .table .count) (λ k. all (m .width) (sumGood (rowArrival here row) k))) (takenIn here (rowIn (stateOf m)) (rowArrival here row) out)
+      (halt out 19 (firstNot (m .table .count) (λ k. all (m .width) (sumGood (rowArrival here row) k)))))
       (halts out)
       (dueLeft (m .table) (m .width) (scanned (m .width) (m .rows ++ (row ∷ []))) (length (m .rows)) out (withRow m row))
       (λ n p. (refl, follows)) (λ y. rw (refused-never row out y) (taken row out y)))
@@ -287,6 +290,12 @@ rows-case m samples sums f st rows out =
     (λ y. left-alike Follows rowOf machineRow row-kept _ _
     (feed-alike Follows rowOf machineRow row-kept (m .width) (length rows / m .width) rows (progress (accepted []) w out 0 0) (progress (accepted []) m out 0 0)
     record { said = refl; out = refl; taken = refl; filtered = refl; follows = together })))
+
+-- M-101: while a row is one of the last 32 arrivals, the sample store keeps it mended
+pub kept-mended : (w : World) (m : Machine) → Follows w m → (e c : ℕ) → e < length (m .rows) → length (m .rows) + m .steps ≤ e + 32 → c < m .width
+    → getD (w .samples) (e % 32 * m .width + c) 0 ≡ getD (mended (getD (m .rows) e [])) c 0
+unfolding Kept
+kept-mended w m r e c p near q = r .stores .kept e c (omega arith) near q ∙ sym (row-at (m .width) (m .table .b) (m .rows) (r .fair .good) e c p q)
 
 -- each call keeps the relation, and is answered alike
 pub kept : (w : World) (m : Machine) (c : Call) → Follows w m → Agree (engine w c) (answers m c)

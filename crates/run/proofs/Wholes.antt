@@ -17,7 +17,7 @@ use Rattle.layout.specs.declared.Table.{Table}
 use Rattle.layout.specs.Answers.{accepted, waiting, done, Left, left}
 use Rattle.layout.specs.Measure.{delayOf}
 use Rattle.layout.specs.Sequences.{Reply, reply, replyOf, replies, ended}
-use Rattle.rule.specs.Questions.{atMost}
+use Rattle.rule.specs.Questions.{sampleGood}
 use Rattle.rule.specs.Sums.{Image}
 use Rattle.rule.specs.Pixels.{pixelOf}
 use Rattle.scan.specs.Calls.{startOf}
@@ -55,7 +55,7 @@ module _ (t : Table) (l : ℕ) (outs : ℕ → List ℤ) (long : (a : ℕ) → l
           (tab-cong l (λ c i. pixel-later l (t .b) rows later h t (a - delayOf t) (pos c) (omega arith)))
 
   -- a good row is taken
-  row-taken : (taken : List (List ℕ)) (row : List ℕ) (a : ℕ) → length taken < 65535 → length row ≡ l → T (all (length row) (atMost (2 ^ t .b - 1) row))
+  row-taken : (taken : List (List ℕ)) (row : List ℕ) (a : ℕ) → length taken < 65535 → length row ≡ l → T (all (length row) (sampleGood (2 ^ t .b - 1) row))
       → machineRow (machine t l taken 0 false) row (outs a)
       ≡ dueLeft t l (scanned l (taken ++ (row ∷ []))) (length taken) (outs a) (machine t l (taken ++ (row ∷ [])) 0 false)
   unfolding machineRow machineAsks
@@ -64,7 +64,7 @@ module _ (t : Table) (l : ℕ) (outs : ℕ → List ℤ) (long : (a : ℕ) → l
         lt-ltb (length taken) 65535 few,
         eq-eqb (length row) l n,
         le-leb l (length (outs a)) (long a),
-        true-of (all (length row) (atMost (2 ^ t .b - 1) row)) small,
+        true-of (all (length row) (sampleGood (2 ^ t .b - 1) row)) small,
       )
       refl
 
@@ -81,7 +81,7 @@ module _ (t : Table) (l : ℕ) (outs : ℕ → List ℤ) (long : (a : ℕ) → l
       record { ran = λ rest. ap (λ m. replies answers m rest) e; ends = λ rest. ap (λ m. ended answers m rest) e }
   rows-run taken (row ∷ rows) h g few =
       let q = good l (t .b) row rows g in
-      let one : T (goodRows l (t .b) (row ∷ [])) = good-one l (t .b) row (eq-eqb (length row) l (q .long)) (true-of (all (length row) (atMost (2 ^ t .b - 1) row)) (q .small)) in
+      let one : T (goodRows l (t .b) (row ∷ [])) = good-one l (t .b) row (eq-eqb (length row) l (q .long)) (true-of (all (length row) (sampleGood (2 ^ t .b - 1) row)) (q .small)) in
       let k = good-append l (t .b) taken (row ∷ []) h one in
       let a = length taken in
       let m = machine t l taken 0 false in
@@ -169,7 +169,7 @@ module _ (t : Table) (l : ℕ) (outs : ℕ → List ℤ) (long : (a : ℕ) → l
         r .ends _ ∙ closing .ends _ ∙ ap (λ x. x .state) (done-again rows _)
 
     -- Demands 1 and 2 over a whole scan, Q1 to Q3 and Q5. For every table that loading accepts, every width from 1 to 1,024, every pair of
-    -- stores long enough, whatever they hold, every list of at most 65,535 rows of L samples of b bits, and outputs of at least L places:
+    -- stores long enough, whatever they hold, every list of at most 65,535 rows of L samples of b bits or dead, and outputs of at least L places:
     -- starting is accepted, and every row, the closing and every closing step is answered as it is due: waiting before arrival D, and row a - D
     -- at each arrival a from then on, each pixel the pixel rule's on the whole scan; after D steps the answer is done.
     pub whole-scan : (samples sums : List ℕ) → Starts t l samples sums

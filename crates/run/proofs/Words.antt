@@ -14,7 +14,7 @@ use Rattle.rule.specs.Sums.{Image}
 use Rattle.rule.specs.Steps.{columnLess, columnNext, leavingSample, enteringSample}
 use Rattle.rule.proofs.Steps.{steps-fit}
 use Rattle.arrival.specs.Arrivals.{Arrival, newSum}
-use Rattle.scan.specs.Calls.{World, world, startOf, arrivalOf, closingOf}
+use Rattle.scan.specs.Calls.{World, world, startOf, rowArrival, closingOf}
 use Rattle.run.specs.Rows.{scanned}
 use Rattle.run.specs.Holds.{Starts}
 use Rattle.run.specs.Words.{CarriedWords}
@@ -43,9 +43,9 @@ module _ (t : Table) (l : ℕ) (samples sums : List ℕ) (s : Starts t l samples
   f = sequence-stores t l samples sums s cs
 
   -- a row that is taken after any calls
-  pub row-words : (row : List ℕ) (out : List ℤ) → AllYes (machineAsks m row (length out)) → CarriedWords (scanned (m .width) (m .rows ++ (row ∷ []))) (arrivalOf w row)
+  pub row-words : (row : List ℕ) (out : List ℤ) → AllYes (machineAsks m row (length out)) → CarriedWords (scanned (m .width) (m .rows ++ (row ∷ []))) (rowArrival w row)
   row-words row out y =
-      subst (λ a. CarriedWords (scanned (m .width) (m .rows ++ (row ∷ []))) (arrivalOf (world a (w .samples) (w .sums)) row)) (sym (f .scan))
+      subst (λ a. CarriedWords (scanned (m .width) (m .rows ++ (row ∷ []))) (rowArrival (world a (w .samples) (w .sums)) row)) (sym (f .scan))
       (carried _ _ (row-finds m (w .samples) (w .sums) (f .fair) (f .stores) row out y))
 
   -- a closing step that is taken after any calls

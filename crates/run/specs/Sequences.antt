@@ -10,7 +10,7 @@ use Rattle.arith.specs.Tab.{tab}
 use Rattle.layout.specs.declared.Table.{Table}
 use Rattle.layout.specs.Answers.{refused, accepted, waiting, done, Question, asks, asksEach, firstNo, Left, left}
 use Rattle.layout.specs.Measure.{delayOf}
-use Rattle.rule.specs.Questions.{atMost}
+use Rattle.rule.specs.Questions.{sampleGood}
 use Rattle.rule.specs.Sums.{Image}
 use Rattle.rule.specs.Pixels.{pixelOf}
 use Rattle.scan.specs.Calls.{World, rowOf, closeOf, stepOf}
@@ -63,7 +63,7 @@ machineAsks m row out =
     ∷ asks 16 (ltb (length (m .rows)) 65535)
     ∷ asks 17 (eqb (length row) (m .width))
     ∷ asks 13 (leb (m .width) out)
-    ∷ asksEach 18 (length row) (atMost (2 ^ m .table .b - 1) row)
+    ∷ asksEach 18 (length row) (sampleGood (2 ^ m .table .b - 1) row)
     ∷ []
 
 -- with one row more

@@ -13,7 +13,7 @@ use Rattle.layout.specs.Measure.{delayOf}
 use Rattle.layout.proofs.Questions.{onVerdict, first-verdict, first-append, first-map}
 use Rattle.arrival.specs.Arrivals.{Arrival, arrivalAsks, Leaves, leaves, arriveOf}
 use Rattle.scan.specs.declared.Scan.{Scan}
-use Rattle.scan.specs.Calls.{World, world, agrees, lentGood, arrivalOf, dueSaid, takenIn, rowIn, rowAsks, rowOf, stepIn, closingOf, stepOf}
+use Rattle.scan.specs.Calls.{World, world, agrees, lentGood, rowArrival, dueSaid, takenIn, rowIn, rowAsks, rowOf, stepIn, closingOf, stepOf}
 
 -- what a call leaves of an arrival: the scan before it where it is refused, else the one after it
 abbrev pub leftOf : (before after : Scan) → Leaves → Left World
@@ -31,7 +31,7 @@ arrived-left w after v out e f =
 pub row-by : (w : World) (row : List ℕ) (out : List ℤ)
     → rowOf w row out
     ≡ onVerdict (verdict (rowAsks (w .scan) row (length (w .samples)) (length (w .sums)) (length out))) (λ n p. left (refused n p) w out)
-    (firstNo (arrivalAsks (arrivalOf w row)) (λ n p. left (refused n p) w out) (takenIn w (rowIn (w .scan)) (arrivalOf w row) out))
+    (firstNo (arrivalAsks (rowArrival w row)) (λ n p. left (refused n p) w out) (takenIn w (rowIn (w .scan)) (rowArrival w row) out))
 unfolding rowOf
 row-by w row out =
     first-append (rowAsks (w .scan) row (length (w .samples)) (length (w .sums)) (length out)) _ _ _
@@ -40,9 +40,9 @@ row-by w row out =
 -- a row that arrives
 pub row-arrives : (w : World) (row : List ℕ) (out : List ℤ)
     → verdict (rowAsks (w .scan) row (length (w .samples)) (length (w .sums)) (length out)) ≡ Accepted
-    → {x : Leaves} → x ≡ arriveOf (arrivalOf w row) out → leftOf (w .scan) (rowIn (w .scan)) x ≡ rowOf w row out
+    → {x : Leaves} → x ≡ arriveOf (rowArrival w row) out → leftOf (w .scan) (rowIn (w .scan)) x ≡ rowOf w row out
 row-arrives w row out asked e =
-    ap (leftOf (w .scan) (rowIn (w .scan))) e ∙ arrived-left w (rowIn (w .scan)) (arrivalOf w row) out refl refl ∙ sym (row-by w row out ∙ rw asked refl)
+    ap (leftOf (w .scan) (rowIn (w .scan))) e ∙ arrived-left w (rowIn (w .scan)) (rowArrival w row) out refl refl ∙ sym (row-by w row out ∙ rw asked refl)
 
 -- a closing step, by the answers to its questions before 19
 abbrev pub stepBy : (w : World) → (out : List ℤ) → (state closed past lent : Bool) → Left World

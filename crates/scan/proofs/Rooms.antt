@@ -4,15 +4,16 @@ use Prim.Native.Nat.{ℕ, _-_, _≤_, _<_}
 use native.Mathlib.Omega.{arith}
 use mathlib.Core.Path.{_≡_, sym, _∙_}
 use mathlib.Core.Bool.{true}
-use mathlib.Core.List.{List}
-use lib.ListN.{length, take, replicate, length-replicate, getD-replicate}
-use lib.Seq.{ext-getD, length-take-le, getD-take}
+use mathlib.Core.List.{List, _++_}
+use lib.ListN.{length, take, drop, replicate, length-replicate, getD-replicate}
+use lib.Seq.{ext-getD, length-take-le, getD-take, take-all, take-at}
 use borrow.Author.Tests.{eqb-true}
 use Rattle.arith.specs.Tab.{tab}
 use Rattle.arith.proofs.Tabs.{length-tab, getD-tab}
 use Rattle.layout.specs.declared.Verdict.the-variants.{Accepted}
 use Rattle.layout.specs.Answers.{verdict}
 use Rattle.layout.proofs.Questions.{all-yes}
+use Rattle.rule.specs.Mended.{mended}
 use Rattle.rule.proofs.Asked.{width-bounds}
 use Rattle.arrival.specs.Arrivals.{Fits}
 use Rattle.arrival.proofs.Asked.{lent-bounds}
@@ -77,3 +78,10 @@ zeros l n h =
     let q : k < n = omega arith in
     let r : k < l - 0 = omega arith in
     getD-take {A = ℕ} (l - 0) line k 0 r ∙ (getD-replicate {A = ℕ} n k 0 0 q ∙ sym (getD-tab {A = ℕ} l (λ j. 0) k 0 p)))
+
+-- the first places of a line that took a mended row of their number
+pub mended-line :
+    (line zeros row : List ℕ) (l : ℕ) → line ≡ take (length zeros) (mended row) ++ drop (length row) zeros → length (mended row) ≡ l → l ≤ length zeros
+    → take (l - 0) line ≡ mended row
+mended-line line zeros row l e long h =
+    rw (e, take-all (length zeros) (mended row) (omega arith)) (take-at (mended row) (drop (length row) zeros) (l - 0) (omega arith))

@@ -11,7 +11,8 @@ use Rattle.layout.specs.declared.Table.{Table}
 use Rattle.layout.specs.Answers.{Said, refused, accepted, waiting, done, Question, asks, asksEach, firstNo, Left, left}
 use Rattle.layout.specs.Measure.{delayOf}
 use Rattle.limits.specs.Limits.{acceptable}
-use Rattle.rule.specs.Questions.{widthGood, atMost}
+use Rattle.rule.specs.Mended.{mended}
+use Rattle.rule.specs.Questions.{widthGood, sampleGood}
 use Rattle.arrival.specs.Arrivals.{Arrival, arriving, storesGood, arrivalAsks, samplesAfter, sumsAfter, outputAfter}
 use Rattle.scan.specs.declared.Scan.{Scan}
 
@@ -69,7 +70,11 @@ takenIn w after v out = left (dueSaid (w .scan)) (world after (samplesAfter v) (
 abbrev pub rowIn : Scan → Scan
 rowIn s = record { table = s .table; width = s .width; rows = s .rows + 1; steps = s .steps; closed = s .closed }
 
--- the questions before 19
+-- a row arrives mended
+abbrev pub rowArrival : World → (row : List ℕ) → Arrival
+rowArrival w row = arrivalOf w (mended row)
+
+-- the questions before 19; 18 is asked of the row as given
 unfoldable pub rowAsks : Scan → (row : List ℕ) → (samples sums out : ℕ) → List Question
 rowAsks s row samples sums out =
     asks 14 (agrees s)
@@ -77,14 +82,14 @@ rowAsks s row samples sums out =
     ∷ asks 16 (ltb (s .rows) 65535)
     ∷ asks 17 (eqb (length row) (s .width))
     ∷ asks 13 (lentGood s samples sums out)
-    ∷ asksEach 18 (length row) (atMost (2 ^ s .table .b - 1) row)
+    ∷ asksEach 18 (length row) (sampleGood (2 ^ s .table .b - 1) row)
     ∷ []
 
 -- a row: 14, 15, 16, 17, 13, 18 and 19; refused, it leaves what it was given
 unfoldable pub rowOf : World → (row : List ℕ) → (out : List ℤ) → Left World
 rowOf w row out =
-    firstNo (rowAsks (w .scan) row (length (w .samples)) (length (w .sums)) (length out) ++ arrivalAsks (arrivalOf w row))
-    (λ n p. left (refused n p) w out) (takenIn w (rowIn (w .scan)) (arrivalOf w row) out)
+    firstNo (rowAsks (w .scan) row (length (w .samples)) (length (w .sums)) (length out) ++ arrivalAsks (rowArrival w row))
+    (λ n p. left (refused n p) w out) (takenIn w (rowIn (w .scan)) (rowArrival w row) out)
 
 -- ---- closing
 

@@ -129,6 +129,8 @@ fn altered_call(
     } else {
         alter(rng, bench, state, &next);
     }
+    let dead = Moment::new(state, next.arrival()).reads_dead(bench.samples());
+    bench.tally.saw_if("65,535 in the store", dead);
     let answer = next.call(bench, state)?;
     if was_19(&answer) {
         bench.tally.saw("altered, 19");

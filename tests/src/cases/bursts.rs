@@ -50,7 +50,7 @@ fn faulty(rng: &mut Rng, bench: &mut Bench, scan: &Scan) -> Result<Scan, String>
         6 => lengths.sums = needed.sums - 1,
         _ => {
             let at = rng.below(given.len());
-            given[at] = rng.pick(&[table::largest_sample(&table) + 1, 65_535]);
+            given[at] = rng.pick(&[table::largest_sample(&table) + 1, 65_534]);
         }
     }
     bench.lend(lengths);

@@ -2,7 +2,7 @@
 
 use crate::ffi::{self, Table};
 use crate::gen;
-use crate::pixel;
+use crate::pixel::{self, Strip};
 use crate::rng::Rng;
 use crate::table;
 use crate::tally::{same, Outcome, Tally};
@@ -18,6 +18,8 @@ fn ask(
     let library = ffi::pixel(table, width, samples, r, c);
     let papers = pixel::answer(table, width, samples, r, c);
     tally.answered("pixel", papers.refusal);
+    let left = papers.refusal == 0 && Strip { width, samples }.looks_left(table, r, c);
+    tally.saw_if("dead before the rectangle", left);
     same("pixel", &library, &papers).map_err(|wrong| {
         let shown = &samples[..samples.len().min(400)];
         format!("{table:?} width {width} row {r} column {c} samples {shown:?}: {wrong}")
@@ -35,7 +37,7 @@ fn brighten(rng: &mut Rng, table: &Table, samples: &mut [u16]) {
     let largest = table::largest_sample(table);
     for _ in 0..rng.below(3) + 1 {
         let at = rng.below(samples.len());
-        samples[at] = rng.pick(&[largest + 1, largest + 1, 32_768, 65_535]);
+        samples[at] = rng.pick(&[largest + 1, largest + 1, 32_768, 65_534]);
     }
 }
 

@@ -264,7 +264,7 @@ fn brighten(rng: &mut Rng, table: &Table, row: &mut Vec<u16>) {
     }
     for _ in 0..rng.below(2) + 1 {
         let at = rng.below(row.len());
-        row[at] = rng.pick(&[largest + 1, largest + 1, 65_535]);
+        row[at] = rng.pick(&[largest + 1, largest + 1, 65_534]);
     }
 }
 

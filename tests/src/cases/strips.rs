@@ -10,7 +10,7 @@ use crate::world::Bench;
 
 type Strip = fn(&mut Rng, &mut Tally) -> Outcome;
 
-const STRIPS: [Strip; 8] = [
+const STRIPS: [Strip; 9] = [
     table_a_pixels,
     table_a_words,
     drops,
@@ -19,6 +19,7 @@ const STRIPS: [Strip; 8] = [
     limits,
     bright_samples,
     no_rows,
+    dead_elements,
 ];
 
 pub const COUNT: u64 = STRIPS.len() as u64;
@@ -193,4 +194,26 @@ fn no_rows(rng: &mut Rng, tally: &mut Tally) -> Outcome {
     same("no rows, first step", &first.kind, &WAITING)?;
     let second = bench.step(&first.scan)?;
     same("no rows, second step", &second.kind, &DONE)
+}
+
+fn dead_elements(rng: &mut Rng, tally: &mut Tally) -> Outcome {
+    let t = single(0, -1, [0; 3]);
+    const X: u16 = 65_535;
+    let given = [[X, 7, X, X, 9], [X, X, 3, X, X], [X; 5]];
+    let mended = [[0, 7, 7, 7, 9], [0, 0, 3, 3, 3], [0; 5]];
+    let mut bench = Bench::new(rng, tally, 1, 5);
+    let mut scan = bench.start(&t, 5)?.scan;
+    for (r, row) in given.iter().enumerate() {
+        scan = bench.row(&scan, row)?.scan;
+        same("dead elements", &bench.output()[..5], &mended[r])?;
+        for (c, &value) in mended[r].iter().enumerate() {
+            same("kept", &i32::from(bench.samples()[5 * r + c]), &value)?;
+            pixel_is("dead elements", &t, 5, given.as_flattened(), (r, c), value)?;
+        }
+    }
+    let answer = bench.row(&scan, &[X, 255, X, 65_534, 256])?;
+    same("65,534", &(answer.number, answer.place), &(18, 3))?;
+    bench.set_sample(2 * 5 + 1, X);
+    let answer = bench.row(&scan, &[1; 5])?;
+    same("65,535 kept", &(answer.number, answer.place), &(19, 0))
 }

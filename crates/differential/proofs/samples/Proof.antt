@@ -6,16 +6,19 @@ use Rattle.differential.proofs.samples.Statement.{statement}
 use Rattle.differential.proofs.samples.Tie as tie
 
 abbrev Inv-loop : tie.InvT-loop
-Inv-loop seed b given₀ bright x₀ i₀ given x i = i ≤ 65536
+Inv-loop seed b given₀ bright dead x₀ i₀ given x i = i ≤ 65536
 
 abbrev μ-loop : tie.MeasureT-loop
-μ-loop seed b given₀ bright x₀ i₀ given x i = 65536 - i
+μ-loop seed b given₀ bright dead x₀ i₀ given x i = 65536 - i
 
 draw-requires : tie.Need-draw-requires Inv-loop μ-loop
 draw-requires c κs = search needs
 
 mul-bright : tie.Need-mul-bright Inv-loop μ-loop
 mul-bright c = search needs
+
+dead-of-requires : tie.Need-dead-of-requires Inv-loop μ-loop
+dead-of-requires c κs = search needs
 
 loop-holds : tie.Need-loop-holds Inv-loop μ-loop
 loop-holds c = search needs
@@ -25,6 +28,9 @@ next-requires c κs = search needs
 
 level-requires : tie.Need-level-requires Inv-loop μ-loop
 level-requires c κs = search needs
+
+sent-requires : tie.Need-sent-requires Inv-loop μ-loop
+sent-requires c κs = search needs
 
 mul-given : tie.Need-mul-given Inv-loop μ-loop
 mul-given c = search needs
@@ -52,9 +58,11 @@ samples-spec =
     μ-loop
     draw-requires
     mul-bright
+    dead-of-requires
     loop-holds
     next-requires
     level-requires
+    sent-requires
     mul-given
     array-write-given
     add-i

@@ -6,10 +6,10 @@ use Rattle.differential.proofs.counts.lines.Statement.{statement}
 use Rattle.differential.proofs.counts.lines.Tie as tie
 
 abbrev Inv-loop : tie.InvT-loop
-Inv-loop names n i₀ i = i ≤ 18
+Inv-loop names n i₀ i = i ≤ 19
 
 abbrev μ-loop : tie.MeasureT-loop
-μ-loop names n i₀ i = 18 - i
+μ-loop names n i₀ i = 19 - i
 
 loop-holds : tie.Need-loop-holds Inv-loop μ-loop
 loop-holds c = search needs

@@ -8,7 +8,7 @@ use Rattle.arith.proofs.Bools.{true-of}
 use Rattle.arith.proofs.Firsts.{first-below, first-beyond}
 use Rattle.limits.proofs.Granted.{granted}
 use lib.ListN.{length}
-use Rattle.rule.specs.Questions.{heightGood, placeGood, atMost}
+use Rattle.rule.specs.Questions.{heightGood, placeGood, sampleGood}
 use Rattle.limits.specs.Limits.{acceptable}
 use Rattle.rule.specs.Questions.{widthGood}
 use Prim.Native.Nat.{_-_, _^_}
@@ -123,7 +123,7 @@ returns-5 c = let p = c .before .before in
     let a = start (p .before) .args in
     let e = rw (power-is p) at (c .before .first-above .ensures) in
     let n = length (a .samples .now) in
-    let test = atMost (2 ^ a .t .b - 1) (a .samples .now) in
+    let test = sampleGood (2 ^ a .t .b - 1) (a .samples .now) in
     rw (y .table, y .width, y .height, y .place, first-below n test (rw (← e) (c .if5 .taken)))
     (ap (Refused 18) e)
 
@@ -134,7 +134,7 @@ returns-6 c = let p = c .before .before in
     let a = start (p .before) .args in
     let e = rw (power-is p) at (c .before .first-above .ensures) in
     let n = length (a .samples .now) in
-    let test = atMost (2 ^ a .t .b - 1) (a .samples .now) in
+    let test = sampleGood (2 ^ a .t .b - 1) (a .samples .now) in
     rw (y .table, y .width, y .height, y .place, true-of (all n test) (first-beyond n test (rw (← e) (c .if5 .left))))
     refl
 

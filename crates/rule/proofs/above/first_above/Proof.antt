@@ -1,11 +1,11 @@
 -- Where the largest sample is within the limit no place fails; else the search finds the lowest that does.
 use mathlib.Core.Path.{sym}
 use native.Mathlib.Nat.{le-trans}
-use lib.Dec.{le→leb}
 use lib.ListN.{length, getD}
 use denote.Ref.{now}
 use Rattle.arith.proofs.Firsts.{first-none}
-use Rattle.rule.specs.Questions.{atMost}
+use Rattle.rule.specs.Questions.{sampleGood}
+use Rattle.rule.proofs.Mended.{small-good}
 use borrow.Author.Needs.{needs}
 use Rattle.rule.proofs.above.first_above.Statement.{statement}
 use Rattle.rule.proofs.above.first_above.Tie as tie
@@ -17,7 +17,7 @@ returns : tie.Need-returns
 returns c =
     let a = c .before .before .before .args in
     let xs = now (a .samples) in
-    sym (first-none (length xs) (atMost (a .limit) xs) (λ j l. le→leb (getD xs j 0) (a .limit) (le-trans (c .before .largest .ensures j l) (c .if1 .taken))))
+    sym (first-none (length xs) (sampleGood (a .limit) xs) (λ j l. small-good {x = getD xs j 0} (le-trans (c .before .largest .ensures j l) (c .if1 .taken))))
 
 search-above-requires : tie.Need-search-above-requires
 search-above-requires c κs = search needs

@@ -3,10 +3,11 @@ use Rattle.scan.proofs.Rooms.{Asked, asked, counts, arrives}
 use Rattle.scan.proofs.Lefts.{row-by, row-arrives}
 use Rattle.arrival.specs.Arrivals.{Fits}
 use Rattle.layout.specs.Answers.{verdict}
-use Rattle.scan.specs.Calls.{world, arrivalOf, rowAsks}
+use Rattle.scan.specs.Calls.{world, rowArrival, rowAsks}
 use Rattle.layout.specs.declared.Verdict.the-variants.{Accepted}
 use lib.ListN.{length}
 use mathlib.Core.Path.{_≡_, refl, sym, _∙_}
+use Rattle.rule.proofs.Mended.{length-mended}
 use borrow.Author.Needs.{needs}
 use Rattle.scan.proofs.rows.row.Statement.{statement}
 use Rattle.scan.proofs.rows.row.Tie as tie
@@ -23,8 +24,8 @@ known : (c : tie.After-enum-told)
 known c = asked _ _ _ _ _ (accepted c)
 
 arrived : (c : tie.After-enum-told)
-    → Fits (arrivalOf (world (start c .args .s) (start c .args .samples .now) (start c .args .sums .now)) (start c .args .row .now)) (length (start c .args .out .now))
-arrived c = let h = known c in arrives _ _ _ (h .state) (h .long) (h .lent)
+    → Fits (rowArrival (world (start c .args .s) (start c .args .samples .now) (start c .args .sums .now)) (start c .args .row .now)) (length (start c .args .out .now))
+arrived c = let h = known c in arrives _ _ _ (h .state) (length-mended _ ∙ h .long) (h .lent)
 
 row-asked-requires : tie.Need-row-asked-requires
 row-asked-requires c κs = search needs
@@ -35,11 +36,11 @@ enum-known-v c = search needs
 enum-told : tie.Need-enum-told
 enum-told c = search needs
 
-add-arrive : tie.Need-add-arrive
-add-arrive c = let n = counts (start (c .before) .args .s) (known (c .before) .state) in search (needs, n .0, n .1)
+add-arrive-mended : tie.Need-add-arrive-mended
+add-arrive-mended c = let n = counts (start (c .before) .args .s) (known (c .before) .state) in search (needs, n .0, n .1)
 
-arrive-requires : tie.Need-arrive-requires
-arrive-requires c κs = arrived (c .before .before .before .before)
+arrive-mended-requires : tie.Need-arrive-mended-requires
+arrive-mended-requires c κs = arrived (c .before .before .before .before)
 
 enum-known-w : tie.Need-enum-known-w
 enum-known-w c = search needs
@@ -64,7 +65,7 @@ same-length-3 c = search needs
 
 returns-2 : tie.Need-returns-2
 returns-2 c = let m = c .before .before .before .before .before .before .before .before in
-    row-arrives _ _ _ (accepted (m .before .before .before .before .before)) (rw (c .before .w .given .1) at (m .arrive .ensures))
+    row-arrives _ _ _ (accepted (m .before .before .before .before .before)) (rw (c .before .w .given .1) at (m .arrive-mended .ensures))
 
 same-length-4 : tie.Need-same-length-4
 same-length-4 c = search needs
@@ -77,7 +78,7 @@ same-length-6 c = search needs
 
 returns-3 : tie.Need-returns-3
 returns-3 c = let m = c .before .before .before .before .before .before .before .before in
-    let e = rw (c .before .enum-told2 .given .1) at (m .arrive .ensures) in
+    let e = rw (c .before .enum-told2 .given .1) at (m .arrive-mended .ensures) in
     let r = c .row-taken .ensures in
     rw (r .0, r .1) (row-arrives _ _ _ (accepted (m .before .before .before .before .before)) e)
 
@@ -88,8 +89,8 @@ row-spec =
     row-asked-requires
     enum-known-v
     enum-told
-    add-arrive
-    arrive-requires
+    add-arrive-mended
+    arrive-mended-requires
     enum-known-w
     enum-told-2
     row-taken-requires

@@ -6,7 +6,7 @@ use Rattle.rule.proofs.Asked.{width-bounds}
 use Rattle.arith.specs.All.{all}
 use Rattle.arith.proofs.Firsts.{first-below, first-beyond}
 use Rattle.arith.proofs.Bools.{true-of}
-use Rattle.rule.specs.Questions.{atMost}
+use Rattle.rule.specs.Questions.{sampleGood}
 use Rattle.limits.proofs.Granted.{Granted, granted}
 use Rattle.layout.specs.declared.Verdict.the-variants.{Accepted, Refused}
 use native.Mathlib.Omega.{arith}
@@ -115,7 +115,7 @@ returns-6 c = let p = c .before .before in
     let y = answered s in
     let a = start s .args in
     let e = rw (power-is p) at (c .before .first-above .ensures) in
-    rw (y .state, lent (p .before), y .opened, y .few, y .long, first-below (length (a .row .now)) (atMost (2 ^ a .s .table .b - 1) (a .row .now)) (rw (← e) (c .if6 .taken)))
+    rw (y .state, lent (p .before), y .opened, y .few, y .long, first-below (length (a .row .now)) (sampleGood (2 ^ a .s .table .b - 1) (a .row .now)) (rw (← e) (c .if6 .taken)))
     (ap (Refused 18) e)
 
 returns-7 : tie.Need-returns-7
@@ -125,7 +125,7 @@ returns-7 c = let p = c .before .before in
     let y = answered s in
     let a = start s .args in
     let e = rw (power-is p) at (c .before .first-above .ensures) in
-    rw (y .state, lent (p .before), y .opened, y .few, y .long, true-of (all (length (a .row .now)) (atMost (2 ^ a .s .table .b - 1) (a .row .now))) (first-beyond (length (a .row .now)) (atMost (2 ^ a .s .table .b - 1) (a .row .now)) (rw (← e) (c .if6 .left))))
+    rw (y .state, lent (p .before), y .opened, y .few, y .long, true-of (all (length (a .row .now)) (sampleGood (2 ^ a .s .table .b - 1) (a .row .now))) (first-beyond (length (a .row .now)) (sampleGood (2 ^ a .s .table .b - 1) (a .row .now)) (rw (← e) (c .if6 .left))))
     refl
 
 pub row-asked-spec : {M : Type 1} → statement M
