@@ -1,11 +1,13 @@
 // Inner: arithmetic that has nothing to do with filters. Bounded sums, passes over a store, truncation by a power of two, integers
 // and their words, floor division, ⟨log2 n⟩. The definitions stand in specs/, what is proved of them in proofs/.
+mod copying;
 mod floor;
 mod log;
 mod natural;
 mod raised;
 mod sign;
 
+pub use copying::copy;
 pub use floor::floor_shift;
 pub use log::log2_up;
 pub use natural::least;

@@ -1,24 +1,12 @@
 // Inner: rows kept in a ring of 32. Row e of a scan of L columns stands from place (e mod 32)·L of the sample store on, so that the
 // store holds the last 32 rows. `keep` puts the arriving row into its place, and `row_at` reads a row.
 ghost use mathlib.Core.Path.{_≡_};
-ghost use mathlib.Core.List.{_++_};
-ghost use Prim.Native.Nat.{_*_, _%_, _≤_};
+ghost use Prim.Native.Nat.{_*_, _%_};
 ghost use lib.IntN.{pos};
-ghost use lib.ListN.{length, getD, drop};
+ghost use lib.ListN.{length};
 ghost use Rattle.arith.specs.Tab.{tab, paste};
 ghost use Rattle.ring.specs.Ring.{rowAt, RingFits};
-
-// The first n samples of a row into the first places of a part of the store.
-fn copy(to: &mut [u16], row: &[u16], n: usize)
-    requires { ⌜ (n ≤ length (now to)) × (n ≤ length (now row)) ⌝ }
-    ensures { λ _. ⌜ now (to .exit) ≡ tab n (λ c. getD (now (row .entry)) c 0) ++ drop n (now (to .entry)) ⌝ }
-{
-    let mut c = 0;
-    while c < n {
-        to[c] = row[c];
-        c += 1;
-    }
-}
+use arith::copy;
 
 // The arriving row into its place.
 pub fn keep(samples: &mut [u16], row: &[u16], width: usize, arrival: usize)

@@ -8,6 +8,7 @@ ghost use lib.ListN.{length, getD, take, drop};
 ghost use Rattle.arith.specs.Tab.{tab};
 ghost use Rattle.rule.specs.Mended.{dead, mendedAt, mended};
 use crate::above::largest;
+use arith::copy;
 use arith::least;
 
 // A sample, or the live one to its left where it is dead.
@@ -15,18 +16,6 @@ fn live_sample(x: u16, left: u16) -> u16
     ensures { λ s. ⌜ s ≡ cond (eqb x dead) left x ⌝ }
 {
     if x == 65535 { left } else { x }
-}
-
-// The first n samples of a row, as they are.
-fn copy(line: &mut [u16], row: &[u16], n: usize)
-    requires { ⌜ (n ≤ length (now line)) × (n ≤ length (now row)) ⌝ }
-    ensures { λ _. ⌜ now (line .exit) ≡ tab n (λ k. getD (now (row .entry)) k 0) ++ drop n (now (line .entry)) ⌝ }
-{
-    let mut k = 0;
-    while k < n {
-        line[k] = row[k];
-        k += 1;
-    }
 }
 
 // The first n samples of a row, mended from left to right.

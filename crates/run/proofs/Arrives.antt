@@ -42,7 +42,7 @@ use Rattle.ring.specs.Ring.{Kept}
 use Rattle.ring.proofs.Kept.{row-is}
 
 -- a scan of rows of l samples of b bits
-pub record Lies (l b : ℕ) (x : Image) : Type 0 where
+pub record InFrame (l b : ℕ) (x : Image) : Type 0 where
   pub above : (i : ℕ) (j : ℤ) → x (negsuc i) j ≡ 0
   pub left : (i : ℤ) (j : ℕ) → x i (negsuc j) ≡ 0
   pub right : (i : ℤ) (j : ℕ) → l ≤ j → x i (pos j) ≡ 0
@@ -51,7 +51,7 @@ pub record Lies (l b : ℕ) (x : Image) : Type 0 where
 -- arrival a of a run over x: the row is x's, and the stores hold what the arrivals before left
 pub record Finds (x : Image) (v : Arrival) : Type 0 where
   pub table : acceptable (v .table) ≡ true
-  pub lies : Lies (v .width) (v .table .b) x
+  pub framed : InFrame (v .width) (v .table .b) x
   pub row : (c : ℕ) → c < v .width → getD (v .row) c 0 ≡ x (pos (v .number)) (pos c)
   pub kept : Kept (v .width) x (v .number) (v .samples)
   pub sums :
@@ -82,7 +82,7 @@ module _ (x : Image) (v : Arrival) (f : Finds x v) where
       → cutAt v edge c ≡ x ((pos (v .number) -ℤ pos (delayOf t)) +ℤ edge) (pos c) / 2 ^ t .q1
   unfolding cutAt edgeRow
   cut-is edge p d h c l =
-      ap (λ s. s / 2 ^ t .q1) (row-is (v .width) x (v .number) (v .row) (v .samples) (λ i c. f .lies .above i (pos c)) (f .row) (f .kept) _ (near edge p d h) c l)
+      ap (λ s. s / 2 ^ t .q1) (row-is (v .width) x (v .number) (v .row) (v .samples) (λ i c. f .framed .above i (pos c)) (f .row) (f .kept) _ (near edge p d h) c l)
 
   module _ (k : ℕ) (lk : k < t .count) where
     abbrev d : Rect
@@ -138,18 +138,18 @@ module _ (x : Image) (v : Arrival) (f : Finds x v) where
     unfolding sumGood sumMost
     sum-good c l =
         let q = g .q1-less in
-        let m = column-most t (f .lies .bits) (omega arith) d (subℕ (v .number) (delayOf t)) (pos c) in
+        let m = column-most t (f .framed .bits) (omega arith) d (subℕ (v .number) (delayOf t)) (pos c) in
         yes-and (leb (leaving v k c) (stored v k c)) _ (le→leb _ _ (leaving-in c l)) (le→leb (newSum v k c) (rowsOf d * (2 ^ (t .b - t .q1) - 1)) (rw (new-is c l) m))
 
     -- the line of new sums is the column sums of the row, 0 outside it
     line-is : (j : ℤ) → lineAt v k j ≡ columnSum t x d (subℕ (v .number) (delayOf t)) j
     unfolding lineAt columnSum
-    line-is (negsuc j) = sym (sum-zero (rowsOf d) (λ i h. rw (f .lies .left (covered (subℕ (v .number) (delayOf t)) (d .trailrow) i) j) (zero-div (2 ^ t .q1))))
+    line-is (negsuc j) = sym (sum-zero (rowsOf d) (λ i h. rw (f .framed .left (covered (subℕ (v .number) (delayOf t)) (d .trailrow) i) j) (zero-div (2 ^ t .q1))))
     line-is (pos j) = go (ltb j (v .width)) (ltb→lt j (v .width)) (nltb→le j (v .width))
       where
         go : (q : Bool) → (T q → j < v .width) → (T (not q) → v .width ≤ j) → cond q (newSum v k j) 0 ≡ columnSum t x d (subℕ (v .number) (delayOf t)) (pos j)
         go true y n = new-is j (y tt)
-        go false y n = sym (sum-zero (rowsOf d) (λ i h. rw (f .lies .right (covered (subℕ (v .number) (delayOf t)) (d .trailrow) i) j (n tt)) (zero-div (2 ^ t .q1))))
+        go false y n = sym (sum-zero (rowsOf d) (λ i h. rw (f .framed .right (covered (subℕ (v .number) (delayOf t)) (d .trailrow) i) j (n tt)) (zero-div (2 ^ t .q1))))
 
     scaled-is : (c : ℕ) → scaledAt v k c ≡ scaledSum t x d (subℕ (v .number) (delayOf t)) (pos c)
     unfolding scaledAt windowAt scaledSum cutSum windowSum

@@ -20,7 +20,7 @@ use Rattle.rule.proofs.Mended.{small-good, mended-zero, mended-cong, getD-mende
 use Rattle.rule.specs.Questions.{sampleGood}
 use Rattle.rule.specs.Sums.{sampleAt}
 use Rattle.run.specs.Rows.{flat, scanned, goodRows}
-use Rattle.run.proofs.Arrives.{Lies}
+use Rattle.run.proofs.Arrives.{InFrame}
 
 -- rows that are good
 pub record Good (l b : ℕ) (row : List ℕ) (rows : List (List ℕ)) : Type 0 where
@@ -82,9 +82,9 @@ pub flat-bits : (l b : ℕ) (rows : List (List ℕ)) → T (goodRows l b rows) �
 flat-bits l b rows h = all-of (length (flat rows)) (sampleGood (2 ^ b - 1) (flat rows)) (λ k p. flat-good l b rows h k)
 
 -- the scan of good rows
-pub rows-lie : (l b : ℕ) (rows : List (List ℕ)) → T (goodRows l b rows) → Lies l b (sampleAt l (flat rows))
+pub rows-framed : (l b : ℕ) (rows : List (List ℕ)) → T (goodRows l b rows) → InFrame l b (sampleAt l (flat rows))
 unfolding sampleAt
-rows-lie l b rows h =
+rows-framed l b rows h =
     record { above = λ i j. refl; left = left; right = right; bits = has-bits b l (flat rows) (flat-bits l b rows h) }
   where
     left : (i : ℤ) (j : ℕ) → sampleAt l (flat rows) i (negsuc j) ≡ 0

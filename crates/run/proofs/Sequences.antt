@@ -33,9 +33,9 @@ use Rattle.run.specs.Rows.{scanned, goodRows}
 use Rattle.ring.specs.Ring.{Kept}
 use Rattle.run.specs.Holds.{Starts, Stores}
 use Rattle.run.specs.Sequences.{Call, rowCall, rowsCall, closeCall, stepCall, engine, Machine, machine, dueLeft, machineAsks, withRow, machineRow, machineRows, machineClose, machineStep, answers, started}
-use Rattle.run.proofs.Arrives.{Lies, Finds}
+use Rattle.run.proofs.Arrives.{InFrame, Finds}
 use Rattle.run.proofs.Stores.{finds, all-good, stores-next, output-due}
-use Rattle.run.proofs.Rows.{rows-lie, row-at, below, good-append, good-one, more-agrees, more-above, last-row}
+use Rattle.run.proofs.Rows.{rows-framed, row-at, below, good-append, good-one, more-agrees, more-above, last-row}
 use Rattle.run.proofs.Starts.{stores-none, stores-agree}
 use Rattle.run.proofs.Alike.{Matches, feed-alike, left-alike}
 
@@ -103,7 +103,7 @@ module _ (m : Machine) (samples sums : List ℕ) (f : Fair m) (st : Holds m samp
       )))
 
   -- an arrival of x with these stores
-  module _ (x : Image) (row : List ℕ) (out : List ℤ) (lies : Lies (m .width) (m .table .b) x)
+  module _ (x : Image) (row : List ℕ) (out : List ℤ) (framed : InFrame (m .width) (m .table .b) x)
       (is : (c : ℕ) → c < m .width → getD row c 0 ≡ x (pos (length (m .rows) + m .steps)) (pos c))
       (found : Stores (m .table) (m .width) x (length (m .rows) + m .steps) samples sums) where
     abbrev a : ℕ
@@ -113,11 +113,11 @@ module _ (m : Machine) (samples sums : List ℕ) (f : Fair m) (st : Holds m samp
     v = arrivalOf here row
 
     says : all (m .table .count) (λ k. all (m .width) (sumGood v k)) ≡ true
-    says = all-good (m .table) (m .width) x a row samples sums (f .table) lies is found
+    says = all-good (m .table) (m .width) x a row samples sums (f .table) framed is found
 
     replied : (after : Scan) (after′ : Machine) → replyOf (takenIn here after v out) ≡ replyOf (dueLeft (m .table) (m .width) x a out after′)
     unfolding dueSaid dueLeft outputAfter
-    replied after after′ = go (ltb a (delayOf (m .table))) (λ h. rw (le-ltb a (delayOf (m .table)) h) at (output-due (m .table) (m .width) x a row samples sums (f .table) lies is found h out)) (nltb→le a (delayOf (m .table)))
+    replied after after′ = go (ltb a (delayOf (m .table))) (λ h. rw (le-ltb a (delayOf (m .table)) h) at (output-due (m .table) (m .width) x a row samples sums (f .table) framed is found h out)) (nltb→le a (delayOf (m .table)))
       where
         go : (b : Bool)
             → (delayOf (m .table) ≤ a → tab (m .width) (pixelAt v) ++ drop (m .width) out ≡ tab (m .width) (λ c. pixelOf (m .table) x (pos (a - delayOf (m .table))) (pos c)) ++ drop (m .width) out)
@@ -129,7 +129,7 @@ module _ (m : Machine) (samples sums : List ℕ) (f : Fair m) (st : Holds m samp
         go false due h = ap (reply (accepted (pos (a - delayOf (m .table)) ∷ []))) (due (h tt))
 
     next : length row ≡ m .width → Stores (m .table) (m .width) x (a + 1) (samplesAfter v) (sumsAfter v)
-    next long = stores-next (m .table) (m .width) x a row samples sums (f .table) lies is found long
+    next long = stores-next (m .table) (m .width) x a row samples sums (f .table) framed is found long
 
     -- the machine after it, whichever it is
     arrives : (after : Scan) (after′ : Machine) → Follows (world after (samplesAfter v) (sumsAfter v)) after′
@@ -171,8 +171,8 @@ module _ (m : Machine) (samples sums : List ℕ) (f : Fair m) (st : Holds m samp
     at-row : length (m .rows) + m .steps ≡ length (m .rows)
     at-row = let z = known .unstepped in omega arith
 
-    lies′ : Lies (m .width) (m .table .b) x′
-    lies′ = rows-lie (m .width) (m .table .b) more (known .good)
+    framed′ : InFrame (m .width) (m .table .b) x′
+    framed′ = rows-framed (m .width) (m .table .b) more (known .good)
 
     is′ : (c : ℕ) → c < m .width → getD (mended row) c 0 ≡ x′ (pos (length (m .rows) + m .steps)) (pos c)
     is′ c q = last-row (m .width) (m .table .b) (m .rows) row (f .good) (known .long) c q ∙ ap (λ k. x′ (pos k) (pos c)) (sym at-row)
@@ -184,7 +184,7 @@ module _ (m : Machine) (samples sums : List ℕ) (f : Fair m) (st : Holds m samp
         (λ e j p. more-agrees (m .width) (m .table .b) (m .rows) (row ∷ []) (f .good) e j (let z = known .unstepped in omega arith)) st
 
     pub row-finds : Finds x′ (rowArrival here row)
-    row-finds = finds (m .table) (m .width) x′ (length (m .rows) + m .steps) (mended row) samples sums (f .table) lies′ is′ found′
+    row-finds = finds (m .table) (m .width) x′ (length (m .rows) + m .steps) (mended row) samples sums (f .table) framed′ is′ found′
 
     taken : Agree (takenIn here (rowIn (stateOf m)) (rowArrival here row) out) (dueLeft (m .table) (m .width) x′ (length (m .rows)) out (withRow m row))
     taken =
@@ -193,14 +193,14 @@ module _ (m : Machine) (samples sums : List ℕ) (f : Fair m) (st : Holds m samp
         let less = k .less in
         let e : length (m .rows) + m .steps + 1 ≡ length more + m .steps = omega arith in
         subst (λ i. Agree (takenIn here (rowIn (stateOf m)) (rowArrival here row) out) (dueLeft (m .table) (m .width) x′ i out (withRow m row))) at-row
-        (arrives x′ (mended row) out lies′ is′ found′ (rowIn (stateOf m)) (withRow m row) record {
+        (arrives x′ (mended row) out framed′ is′ found′ (rowIn (stateOf m)) (withRow m row) record {
           fair = record { table = f .table; width = f .width; good = k .good; few = omega arith; most = f .most; unstepped = f .unstepped };
           scan = ap (λ (i : ℕ). record { table = m .table; width = m .width; rows = i; steps = m .steps; closed = m .closed }) (sym n);
-          stores = subst (λ i. Stores (m .table) (m .width) x′ i (samplesAfter (rowArrival here row)) (sumsAfter (rowArrival here row))) e (next x′ (mended row) out lies′ is′ found′ (length-mended row ∙ k .long));
+          stores = subst (λ i. Stores (m .table) (m .width) x′ i (samplesAfter (rowArrival here row)) (sumsAfter (rowArrival here row))) e (next x′ (mended row) out framed′ is′ found′ (length-mended row ∙ k .long));
         })
 
     refused-never : all (m .table .count) (λ k. all (m .width) (sumGood (rowArrival here row) k)) ≡ true
-    refused-never = says x′ (mended row) out lies′ is′ found′
+    refused-never = says x′ (mended row) out framed′ is′ found′
 
   row-case : (row : List ℕ) (out : List ℤ) → Agree (rowOf here row out) (machineRow m row out)
   unfolding rowOf rowAsks arrivalAsks machineRow machineAsks
@@ -221,28 +221,28 @@ module _ (m : Machine) (samples sums : List ℕ) (f : Fair m) (st : Holds m samp
     abbrev x : Image
     x = scanned (m .width) (m .rows)
 
-    lies : Lies (m .width) (m .table .b) x
-    lies = rows-lie (m .width) (m .table .b) (m .rows) (f .good)
+    framed : InFrame (m .width) (m .table .b) x
+    framed = rows-framed (m .width) (m .table .b) (m .rows) (f .good)
 
     is : (c : ℕ) → c < m .width → getD zeros c 0 ≡ x (pos (length (m .rows) + m .steps)) (pos c)
     is c q = getD-tab (m .width) (λ k. 0) c 0 q ∙ sym (below (m .width) (m .table .b) (m .rows) (f .good) (length (m .rows) + m .steps) c (omega arith))
 
     step-never : all (m .table .count) (λ k. all (m .width) (sumGood (closingOf here) k)) ≡ true
-    step-never = says x zeros out lies is st
+    step-never = says x zeros out framed is st
 
     pub step-finds : Finds x (closingOf here)
-    step-finds = finds (m .table) (m .width) x (length (m .rows) + m .steps) zeros samples sums (f .table) lies is st
+    step-finds = finds (m .table) (m .width) x (length (m .rows) + m .steps) zeros samples sums (f .table) framed is st
 
     stepped : Agree (takenIn here (stepIn (stateOf m)) (closingOf here) out)
         (dueLeft (m .table) (m .width) x (length (m .rows) + m .steps) out (machine (m .table) (m .width) (m .rows) (m .steps + 1) (m .closed)))
     stepped =
         let e : length (m .rows) + m .steps + 1 ≡ length (m .rows) + (m .steps + 1) = omega arith in
-        arrives x zeros out lies is st (stepIn (stateOf m)) (machine (m .table) (m .width) (m .rows) (m .steps + 1) (m .closed)) record {
+        arrives x zeros out framed is st (stepIn (stateOf m)) (machine (m .table) (m .width) (m .rows) (m .steps + 1) (m .closed)) record {
           fair = record { table = f .table; width = f .width; good = f .good; few = f .few; most = omega arith; unstepped = rw shuts refl };
           scan = refl;
           stores =
               subst (λ i. Stores (m .table) (m .width) x i (samplesAfter (closingOf here)) (sumsAfter (closingOf here))) e
-              (next x zeros out lies is st (length-tab (m .width) (λ k. 0)));
+              (next x zeros out framed is st (length-tab (m .width) (λ k. 0)));
         }
 
   step-case : (out : List ℤ) → Agree (stepOf here out) (machineStep m out)
@@ -317,7 +317,7 @@ module _ (t : Table) (l : ℕ) (samples sums : List ℕ) (h : Starts t l samples
       rw (h .table, h .width, h .stores) record {
         fair = record { table = h .table; width = h .width; good = tt; few = zero-le; most = zero-le; unstepped = refl };
         scan = refl;
-        stores = stores-none t l (scanned l []) samples sums (rows-lie l (t .b) [] tt) (h .stores);
+        stores = stores-none t l (scanned l []) samples sums (rows-framed l (t .b) [] tt) (h .stores);
       }
 
   pub both : (cs : List Call) → (replies engine (startOf t l samples sums .state) cs ≡ replies answers (started t l) cs)

@@ -22,15 +22,15 @@ use Rattle.arrival.specs.Arrivals.{storesGood}
 use Rattle.arrival.proofs.Asked.{stores-bounds}
 use Rattle.ring.specs.Ring.{Kept}
 use Rattle.run.specs.Holds.{Stores}
-use Rattle.run.proofs.Arrives.{Lies}
+use Rattle.run.proofs.Arrives.{InFrame}
 use Rattle.ring.proofs.Kept.{kept-none}
 
 -- no arrival yet, and every column sum 0
 pub stores-none :
-    (t : Table) (l : ℕ) (x : Image) (samples sums : List ℕ) → Lies l (t .b) x → storesGood l (t .count) (length samples) (length sums) ≡ true
+    (t : Table) (l : ℕ) (x : Image) (samples sums : List ℕ) → InFrame l (t .b) x → storesGood l (t .count) (length samples) (length sums) ≡ true
     → Stores t l x 0 (zeroed (32 * l) samples) (zeroed (t .count * l) sums)
 unfolding columnSum
-stores-none t l x samples sums lies st =
+stores-none t l x samples sums framed st =
     let b = stores-bounds l (t .count) (length samples) (length sums) st in
     record {
       samples-long = le-trans (b .0) (le-of-eq (sym (pass-length (32 * l) (λ k. 0) samples (b .0))));
@@ -46,7 +46,7 @@ stores-none t l x samples sums lies st =
 
     -- above the scan there are zeros
     none : (z j : ℤ) → z ≤ℤ (subℕ 0 (suc (delayOf t)) +ℤ pos (delayOf t)) → x z j ≡ 0
-    none (negsuc m) j h = lies .above m j
+    none (negsuc m) j h = framed .above m j
     none (pos e) j h = absurd (let p = le-diff (diff-pos e) (diff-add (diff-sub 0 (suc (delayOf t))) (diff-pos (delayOf t))) h in omega arith)
 
 -- the stores after a arrivals say nothing of the rows from a on

@@ -26,17 +26,17 @@ use Rattle.arrival.specs.Arrivals.{Arrival, stored, newSum, sumGood, pixelAt, s
 use Rattle.ring.specs.Ring.{Kept}
 use Rattle.run.specs.Holds.{Stores}
 use Rattle.ring.proofs.Kept.{kept-next}
-use Rattle.run.proofs.Arrives.{Lies, Finds, pixel-is, sums-good, sums-next}
+use Rattle.run.proofs.Arrives.{InFrame, Finds, pixel-is, sums-good, sums-next}
 
 module _ (t : Table) (l : ℕ) (x : Image) (a : ℕ) (row samples sums : List ℕ) where
   -- what arrives
   abbrev pub v : Arrival
   v = record { table = t; width = l; number = a; row = row; samples = samples; sums = sums }
 
-  module _ (ok : acceptable t ≡ true) (lies : Lies l (t .b) x) (is : (c : ℕ) → c < l → getD row c 0 ≡ x (pos a) (pos c)) (st : Stores t l x a samples sums) where
+  module _ (ok : acceptable t ≡ true) (framed : InFrame l (t .b) x) (is : (c : ℕ) → c < l → getD row c 0 ≡ x (pos a) (pos c)) (st : Stores t l x a samples sums) where
     pub finds : Finds x v
     unfolding stored
-    finds = record { table = ok; lies = lies; row = is; kept = st .kept; sums = st .carried }
+    finds = record { table = ok; framed = framed; row = is; kept = st .kept; sums = st .carried }
 
     pub all-good : all (t .count) (λ k. all l (sumGood v k)) ≡ true
     all-good = sums-good x v finds

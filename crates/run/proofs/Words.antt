@@ -29,7 +29,7 @@ carried x v f =
     record {
       less-is = λ k c h i. ap₂ _-_ (f .sums k c h i) (leaving-is x v f k h c i);
       next-is = λ k c h i. ap₂ _+_ (ap₂ _-_ (f .sums k c h i) (leaving-is x v f k h c i)) (entering-is x v f k h c i);
-      words = λ k h. steps-fit (v .table) (f .table) (f .lies .bits) k h;
+      words = λ k h. steps-fit (v .table) (f .table) (f .framed .bits) k h;
     }
 
 module _ (t : Table) (l : ℕ) (samples sums : List ℕ) (s : Starts t l samples sums) (cs : List Call) where

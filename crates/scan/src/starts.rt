@@ -16,7 +16,7 @@ use limits::accepted;
 use rule::width_good;
 
 // Zeros into the first n samples.
-fn wipe(to: &mut [u16], n: usize)
+fn zero_samples(to: &mut [u16], n: usize)
     requires { ⌜ n ≤ length (now to) ⌝ }
     ensures { λ _. ⌜ now (to .exit) ≡ zeroed n (now (to .entry)) ⌝ }
 {
@@ -28,7 +28,7 @@ fn wipe(to: &mut [u16], n: usize)
 }
 
 // Zeros into the first n sums.
-fn wipe_sums(to: &mut [u32], n: usize)
+fn zero_sums(to: &mut [u32], n: usize)
     requires { ⌜ n ≤ length (now to) ⌝ }
     ensures { λ _. ⌜ now (to .exit) ≡ zeroed n (now (to .entry)) ⌝ }
 {
@@ -81,8 +81,8 @@ pub fn start(t: Table, width: usize, samples: &mut [u16], sums: &mut [u32]) -> S
             scan: begun(t, 0),
         },
         Verdict::Accepted => {
-            wipe(samples, 32 * width);
-            wipe_sums(sums, t.count * width);
+            zero_samples(samples, 32 * width);
+            zero_sums(sums, t.count * width);
             Started {
                 verdict: v,
                 scan: begun(t, width),

@@ -33,18 +33,18 @@ begun-requires c κs = search needs
 enum-told-2 : tie.Need-enum-told-2
 enum-told-2 c = search needs
 
-mul-wipe : tie.Need-mul-wipe
-mul-wipe c = let w = width-bounds (accepted (c .before) .width) .1 in search (needs, w)
+mul-zero-samples : tie.Need-mul-zero-samples
+mul-zero-samples c = let w = width-bounds (accepted (c .before) .width) .1 in search (needs, w)
 
-wipe-requires : tie.Need-wipe-requires
-wipe-requires c κs = stores-bounds _ _ _ _ (accepted (c .before) .stores) .0
+zero-samples-requires : tie.Need-zero-samples-requires
+zero-samples-requires c κs = stores-bounds _ _ _ _ (accepted (c .before) .stores) .0
 
-mul-wipe-sums : tie.Need-mul-wipe-sums
-mul-wipe-sums c = let b = accepted (c .before .before .before .before .before .before) in
+mul-zero-sums : tie.Need-mul-zero-sums
+mul-zero-sums c = let b = accepted (c .before .before .before .before .before .before) in
     let p = mul-le-mul (granted _ (b .table) .few) (width-bounds (b .width) .1) in search (needs, p)
 
-wipe-sums-requires : tie.Need-wipe-sums-requires
-wipe-sums-requires c κs = stores-bounds _ _ _ _ (accepted (c .before .before .before .before .before .before) .stores) .1
+zero-sums-requires : tie.Need-zero-sums-requires
+zero-sums-requires c κs = stores-bounds _ _ _ _ (accepted (c .before .before .before .before .before .before) .stores) .1
 
 begun-requires-2 : tie.Need-begun-requires-2
 begun-requires-2 c κs = search needs
@@ -69,7 +69,7 @@ returns-2 c = let w = c .before .before .before in
     let a = start (m .before) .args in
     let v = m .enum-told2 .given .1 in
     rw (first-verdict (startAsks (a .t) (a .width) (length (a .samples .now)) (length (a .sums .now))), sym (m .before .before .start-asked .ensures) ∙ v, v, c .begun2 .ensures)
-    (ap₂ (λ samples sums. left (said-yes []) (world (fresh (a .t) (a .width)) samples sums) []) (p .wipe .ensures) (w .wipe-sums .ensures))
+    (ap₂ (λ samples sums. left (said-yes []) (world (fresh (a .t) (a .width)) samples sums) []) (p .zero-samples .ensures) (w .zero-sums .ensures))
 
 pub start-spec : {M : Type 1} → statement M
 start-spec =
@@ -79,10 +79,10 @@ start-spec =
     enum-told
     begun-requires
     enum-told-2
-    mul-wipe
-    wipe-requires
-    mul-wipe-sums
-    wipe-sums-requires
+    mul-zero-samples
+    zero-samples-requires
+    mul-zero-sums
+    zero-sums-requires
     begun-requires-2
     returns
     same-length

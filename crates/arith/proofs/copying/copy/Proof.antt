@@ -1,13 +1,13 @@
--- `ring::copy` writes the first n samples of a row into the first n places: a pass over them.
+-- `arith::copy` writes the first n samples of a row into the first n places: a pass over them.
 -- Assumes nothing.
 use denote.Ref.{now}
 use Prim.Native.Nat.{_-_, _≤_}
 use mathlib.Core.Path.{refl}
 use lib.ListN.{length, getD}
 use borrow.Author.Needs.{needs}
 use Rattle.arith.proofs.Passes.{Pass, none-done, one-more, all-done}
-use Rattle.ring.proofs.copy.Statement.{statement}
-use Rattle.ring.proofs.copy.Tie as tie
+use Rattle.arith.proofs.copying.copy.Statement.{statement}
+use Rattle.arith.proofs.copying.copy.Tie as tie
 
 abbrev Inv-loop : tie.InvT-loop
 Inv-loop to₀ row n c₀ to c = Pass n (λ k. getD row k 0) to₀ c to × (n ≤ length row)
