@@ -3,12 +3,13 @@
 # make lib       build/libstrip.a and build/strip.h, for C
 # make examples  the header compiled as C and C++, the C example run
 # make outside   the library, through its C interface, beside a filter written separately from the papers
+# make programs  stripfilter and listing as a user meets them: options, faults, input in pieces, beside a filter in Python
 # make bench     the engine's speed beside C loops, and the program's beside the engine
 # make scan      makes the strip under scans/ again
 # make edits CRATE=name   tries one crate's must-fail edits: where each is refused, and whether that is at a fact
 # make tidy      names in docs/PROMISES.md that do not exist, definitions that nothing uses
 
-.PHONY: test run lib examples outside bench scan edits tidy kit
+.PHONY: test run lib examples outside programs bench scan edits tidy kit
 
 kit:
 	@command -v rt >/dev/null 2>&1 || { echo "missing: rt, the command of the Rattle kit, is not on the PATH"; exit 2; }
@@ -47,6 +48,11 @@ examples: lib
 # `make outside STRIP_LIB_DIR=folder` takes another library.
 outside: lib
 	@$(if $(STRIP_LIB_DIR),STRIP_LIB_DIR=$(abspath $(STRIP_LIB_DIR)) )cargo run --release --offline --quiet --manifest-path tests/Cargo.toml
+
+programs: kit
+	@rt check listing stripfilter >target.log 2>&1 || { cat target.log; rm -f target.log; exit 1; }
+	@rm -f target.log
+	@tests/programs.sh
 
 bench: lib
 	@rt check stripfilter >target.log 2>&1 || { cat target.log; rm -f target.log; exit 1; }

@@ -1,0 +1,67 @@
+#!/bin/sh
+# The programs as a user meets them: what no contract can say is tried here. stripfilter beside scripts/filter.py on two-byte samples and as
+# values, its input in odd pieces and two scans on one stream, its options and faults; listing on what cannot be read.
+set -u
+cd "$(dirname "$0")/.." || exit 2
+strip=$PWD/target/bin/stripfilter
+list=$PWD/target/bin/listing
+[ -x "$strip" ] && [ -x "$list" ] || { echo "programs: not built; run 'rt check listing stripfilter' first"; exit 2; }
+work=$(mktemp -d)
+trap 'rm -rf "$work"' EXIT
+table=$PWD/tables/even.table
+failed=0
+fail() { echo "programs: $1"; failed=1; }
+same() { cmp -s "$2" "$3" || fail "$1"; }
+# says NAME WANTED COMMAND..: the first line that the command writes to either stream begins with WANTED
+says() {
+    name=$1 wanted=$2
+    shift 2
+    "$@" >"$work/said" 2>&1
+    case $(head -n 1 "$work/said") in "$wanted"*) ;; *) fail "$name: $(head -n 1 "$work/said")" ;; esac
+}
+
+# a scan of 151 by 97 two-byte samples, the same at every run
+python3 - >"$work/scan.pgm" <<'END'
+import sys
+width, height, state = 151, 97, 1
+out = bytearray(b"P5 # two bytes a sample\n%d %d 1023\n" % (width, height))
+for k in range(width * height):
+    state = (state * 1103515245 + 12345) % 2**31
+    out += ((state >> 12) % 1024).to_bytes(2, "big")
+sys.stdout.buffer.write(out)
+END
+
+"$strip" "$table" <"$work/scan.pgm" >"$work/picture"
+python3 scripts/filter.py "$table" <"$work/scan.pgm" >"$work/wanted"
+same "two-byte samples" "$work/picture" "$work/wanted"
+"$strip" --values "$table" <"$work/scan.pgm" >"$work/values"
+python3 scripts/filter.py --values "$table" <"$work/scan.pgm" >"$work/wanted"
+same "--values" "$work/values" "$work/wanted"
+"$strip" "$table" --values <"$work/scan.pgm" >"$work/after"
+same "--values after the table" "$work/after" "$work/values"
+{ head -c 1001 "$work/scan.pgm"; sleep 0.2; tail -c +1002 "$work/scan.pgm" | head -c 9999; sleep 0.2; tail -c +11001 "$work/scan.pgm"; } | "$strip" "$table" >"$work/pieces"
+same "input in pieces" "$work/pieces" "$work/picture"
+cat "$work/scan.pgm" "$work/scan.pgm" | { "$strip" "$table" >"$work/first"; "$strip" "$table" >"$work/second"; }
+same "the second of two scans on one stream" "$work/second" "$work/first"
+
+says "--help" "usage: stripfilter" "$strip" --help
+says "-h" "usage: stripfilter" "$strip" -h
+says "--version" "stripfilter " "$strip" --version
+says "no table" "usage: stripfilter" "$strip"
+says "an unknown option" "--value: no such option" "$strip" --value "$table"
+says "a table that is not there" "$work/none: " "$strip" "$work/none"
+head -c 8 "$table" >"$work/short.table"
+says "a table cut off" "$work/short.table: table refused, 2" "$strip" "$work/short.table"
+: >"$work/empty"
+says "an empty scan" "scan: the input is empty" sh -c "'$strip' '$table' <'$work/empty'"
+says "a directory for a scan" "scan: Is a directory" sh -c "'$strip' '$table' <'$work'"
+says "standard input closed" "scan: Bad file descriptor" sh -c "'$strip' '$table' <&-"
+says "a scan cut off" "scan: cut off in row 0" sh -c "head -c 40 '$work/scan.pgm' | '$strip' '$table' 2>&1 >'$work/out'"
+says "no PGM" "scan: not a binary PGM" sh -c "echo P2 1 1 1 | '$strip' '$table'"
+"$list" <tables/a.table >"$work/listed"
+same "the listing of Table A" "$work/listed" crates/listing/stdout
+"$list" <"$work" >"$work/listed" 2>"$work/said"
+[ -s "$work/said" ] || fail "listing does not say that it cannot read"
+
+[ $failed -eq 0 ] && echo "programs: ok"
+exit $failed
