@@ -7,7 +7,7 @@ use native.Mathlib.Omega.{arith}
 use mathlib.Core.Path.{_≡_, refl, sym, ap, ap₂, _∙_}
 use mathlib.Core.Logic.{⊎-elim}
 use mathlib.Core.List.{List, _++_, append-assoc}
-use lib.ListN.{length, getD, take, drop, List·getD-append}
+use lib.ListN.{length, getD, take, drop, length-append, length-drop, List·getD-append}
 use lib.Seq.{getD-append-add, getD-drop, take-at, drop-at, drop-drop}
 use borrow.Rule.Slice.PartMut.{putMid, put-same}
 use Rattle.arith.specs.Tab.{tab, grid, paste}
@@ -22,6 +22,14 @@ grid-next k l f xs c =
     ap (λ i. getD (grid k l f ++ drop (k * l) xs) i 0) e ∙ getD-append-add (grid k l f) (drop (k * l) xs) c 0 ∙ getD-drop (k * l) xs c 0
 
 module _ {A : Type 0} where
+  -- a pass of whole lines keeps the length
+  pub grid-long : (k l : ℕ) (f : ℕ → ℕ → A) (xs : List A) → k * l ≤ length xs → length (grid k l f ++ drop (k * l) xs) ≡ length xs
+  grid-long k l f xs h =
+      let a = length-append (grid k l f) (drop (k * l) xs) in
+      let b = length-grid k l f in
+      let c = length-drop (k * l) xs in
+      omega arith
+
   -- place c of line k
   pub grid-at : (n l : ℕ) (f : ℕ → ℕ → A) (rest : List A) (d : A) (k c : ℕ) → k < n → c < l → getD (grid n l f ++ rest) (k * l + c) d ≡ f k c
   grid-at zero l f rest d k c h i = absurd (not-suc-le-zero h)

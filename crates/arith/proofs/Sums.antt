@@ -1,6 +1,6 @@
 -- Laws of bounded sums.
 -- Assumes nothing.
-use Prim.Native.Nat.{ℕ, zero, suc, _+_, _*_, _≤_, _<_, zero-le}
+use Prim.Native.Nat.{ℕ, zero, suc, _+_, _-_, _*_, _≤_, _<_, zero-le}
 use native.Mathlib.Nat.{le-step, lt-suc-self, le-suc-iff, suc-inj, not-suc-le-zero, add-suc, add-zero}
 use native.Mathlib.Omega.{arith}
 use mathlib.Core.Path.{_≡_, refl, sym, ap, _∙_}
@@ -73,3 +73,20 @@ pub sum-first : (n : ℕ) (f : ℕ → ℕ) → sum (suc n) f ≡ f 0 + sum n (�
 unfolding sum
 sum-first zero f = omega arith
 sum-first (suc n) f = let p = sum-first n f in omega arith
+
+-- the first m terms of n add up to no more than all
+pub sum-prefix : (m n : ℕ) (f : ℕ → ℕ) → m ≤ n → sum m f ≤ sum n f
+sum-prefix m n f h =
+    let e : m + (n - m) ≡ n = omega arith in
+    let s = sum-split m (n - m) f in
+    let a = ap (λ k. sum k f) e in
+    omega arith
+
+-- a sum of sums, the other way round
+pub sum-swap : (m n : ℕ) (f : ℕ → ℕ → ℕ) → sum m (λ i. sum n (f i)) ≡ sum n (λ j. sum m (λ i. f i j))
+unfolding sum
+sum-swap zero n f = sym (sum-zero n (λ j h. refl))
+sum-swap (suc m) n f =
+    let p = sum-swap m n f in
+    let q = sum-add n (λ j. sum m (λ i. f i j)) (f m) in
+    omega arith

@@ -8,6 +8,7 @@ mod raised;
 mod sign;
 
 pub use copying::copy;
+pub use copying::zero_samples;
 pub use floor::floor_shift;
 pub use log::log2_up;
 pub use natural::least;

@@ -9,23 +9,12 @@ ghost use Rattle.scan.specs.Calls.{world, fresh, startAsks, startOf, clo
 use crate::Scan;
 use crate::Started;
 use crate::state::state_good;
+use arith::zero_samples;
 use arrival::stores_good;
 use layout::Table;
 use layout::Verdict;
 use limits::accepted;
 use rule::width_good;
-
-// Zeros into the first n samples.
-fn zero_samples(to: &mut [u16], n: usize)
-    requires { ⌜ n ≤ length (now to) ⌝ }
-    ensures { λ _. ⌜ now (to .exit) ≡ zeroed n (now (to .entry)) ⌝ }
-{
-    let mut c = 0;
-    while c < n {
-        to[c] = 0;
-        c += 1;
-    }
-}
 
 // Zeros into the first n sums.
 fn zero_sums(to: &mut [u32], n: usize)

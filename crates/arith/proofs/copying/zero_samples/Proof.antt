@@ -1,12 +1,12 @@
--- `scan::zero_samples` writes zeros into the first n samples: a pass over them.
+-- `arith::zero_samples` writes zeros into the first n samples: a pass over them.
 -- Assumes nothing.
 use denote.Ref.{now}
 use Prim.Native.Nat.{_-_}
 use mathlib.Core.Path.{refl}
 use borrow.Author.Needs.{needs}
 use Rattle.arith.proofs.Passes.{Pass, none-done, one-more, all-done}
-use Rattle.scan.proofs.starts.zero_samples.Statement.{statement}
-use Rattle.scan.proofs.starts.zero_samples.Tie as tie
+use Rattle.arith.proofs.copying.zero_samples.Statement.{statement}
+use Rattle.arith.proofs.copying.zero_samples.Tie as tie
 
 abbrev Inv-loop : tie.InvT-loop
 Inv-loop to₀ n c₀ to c = Pass n (λ k. 0) to₀ c to

@@ -1,0 +1,3 @@
+pub mod Ors
+pub mod Changes
+pub mod Ranks
