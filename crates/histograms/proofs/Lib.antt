@@ -1,0 +1,3 @@
+mod Zero
+mod Edge
+mod Slides

@@ -1,0 +1,62 @@
+-- What the functions that carry a window along a row compute, and what they ask. The contract of an arrival uses none of this.
+-- Assumes nothing.
+use Prim.Native.Nat.{ℕ, _+_, _*_, _≤_, _<_}
+use mathlib.Core.Path.{_≡_}
+use mathlib.Core.List.{List, _++_}
+use lib.IntN.{ℤ, subℕ}
+use lib.ListN.{length, getD, drop}
+use Rattle.arith.specs.Part.{posPart, negPart}
+use Rattle.arith.specs.Sum.{sum}
+use Rattle.arith.specs.Tab.{tab}
+use Rattle.layout.specs.declared.Rect.{Rect}
+use Rattle.layout.specs.Measure.{colsOf}
+use Rattle.levels.specs.Levels.{countOf, countAt, ranked}
+use Rattle.histograms.specs.declared.windows.Span.{Span}
+use Rattle.histograms.specs.Windows.{columnCount}
+
+-- the span of a window
+abbrev pub spanOf : Rect → (width levels rank : ℕ) → Span
+spanOf d width levels rank =
+    record { ahead = posPart (d .leadcol); behind = negPart (d .leadcol); columns = colsOf d; width = width; levels = levels; rank = rank }
+
+-- the count of level u in column i - (behind + columns)
+abbrev pub framed : List ℕ → Span → (u i : ℕ) → ℕ
+framed counts s u i = columnCount counts (s .width) u (subℕ i (s .behind + s .columns))
+
+-- the counts of the window when k columns have entered: those of the last `columns` of them
+abbrev pub slidTo : List ℕ → Span → (k u : ℕ) → ℕ
+slidTo counts s k u = sum (s .columns) (λ j. framed counts s u (k + j))
+
+-- ---- what is asked
+
+-- zeros where there is no column
+pub record Zeros (n : ℕ) (zeros : List ℕ) : Type 0 where
+  pub long : n ≤ length zeros
+  pub none : (k : ℕ) → getD zeros k 0 ≡ 0
+
+pub record ColumnFits (width levels counts : ℕ) (zeros : List ℕ) : Type 0 where
+  pub few : levels ≤ 256
+  pub counts-long : width * 256 ≤ counts
+  pub dark : Zeros 256 zeros
+
+-- counts of at most 31 in each column, and 1 to 31 columns
+pub record SpanFits (s : Span) (counts zeros : List ℕ) : Type 0 where
+  pub columns : ColumnFits (s .width) (s .levels) (length counts) zeros
+  pub behind-most : s .behind ≤ 15
+  pub ahead-most : s .ahead ≤ 15
+  pub columns-some : 1 ≤ s .columns
+  pub columns-most : s .columns ≤ 31
+  pub width-most : s .width ≤ 1024
+  pub ranked : 1 ≤ s .rank
+  pub small : (j u : ℕ) → j < s .width → u < s .levels → countAt counts j u ≤ 31
+
+-- a window store that holds the counts of the window when k columns have entered
+pub record Holds (s : Span) (counts : List ℕ) (k : ℕ) (window : List ℕ) : Type 0 where
+  pub long : s .levels ≤ length window
+  pub each : (u : ℕ) → u < s .levels → countOf window u ≡ slidTo counts s k u
+
+-- what is left of a row: its levels in the output, and beyond the levels the window store as it was
+pub record Written (s : Span) (counts : List ℕ) (out₀ : List ℤ) (window₀ : List ℕ) (out : List ℤ) (window : List ℕ) : Type 0 where
+  pub row : out ≡ tab (s .width) (λ c. ranked (s .levels) (s .rank) (slidTo counts s (c + s .ahead + 1))) ++ drop (s .width) out₀
+  pub rest : drop (s .levels) window ≡ drop (s .levels) window₀
+  pub long : length window ≡ length window₀
