@@ -37,16 +37,10 @@ use Rattle.arrival.specs.Arrivals.{Arrival, sumsAfter, edgeRow, cutAt, leaving,
 use Rattle.rule.proofs.Depends.{lead-most}
 use Rattle.arrival.proofs.Delays.{delay-most}
 use Rattle.rule.proofs.Slides.{column-slide}
-use Rattle.run.proofs.Columns.{leaving-row, entering-row, due-row, next-row}
 use Rattle.ring.specs.Ring.{Kept}
 use Rattle.ring.proofs.Kept.{row-is}
-
--- a scan of rows of l samples of b bits
-pub record InFrame (l b : ℕ) (x : Image) : Type 0 where
-  pub above : (i : ℕ) (j : ℤ) → x (negsuc i) j ≡ 0
-  pub left : (i : ℤ) (j : ℕ) → x i (negsuc j) ≡ 0
-  pub right : (i : ℤ) (j : ℕ) → l ≤ j → x i (pos j) ≡ 0
-  pub bits : HasBits b x
+use Rattle.model.proofs.Rows.{InFrame}
+use Rattle.model.proofs.Edges.{leaving-row, entering-row, due-row, next-row}
 
 -- arrival a of a run over x: the row is x's, and the stores hold what the arrivals before left
 pub record Finds (x : Image) (v : Arrival) : Type 0 where

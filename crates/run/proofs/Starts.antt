@@ -22,8 +22,8 @@ use Rattle.arrival.specs.Arrivals.{storesGood}
 use Rattle.arrival.proofs.Asked.{stores-bounds}
 use Rattle.ring.specs.Ring.{Kept}
 use Rattle.run.specs.Holds.{Stores}
-use Rattle.run.proofs.Arrives.{InFrame}
 use Rattle.ring.proofs.Kept.{kept-none}
+use Rattle.model.proofs.Rows.{InFrame}
 
 -- no arrival yet, and every column sum 0
 pub stores-none :

@@ -18,9 +18,15 @@ use Rattle.rule.specs.Mended.{mendedAt, mended}
 use Rattle.rule.proofs.Asked.{has-bits}
 use Rattle.rule.proofs.Mended.{small-good, mended-zero, mended-cong, getD-mended}
 use Rattle.rule.specs.Questions.{sampleGood}
-use Rattle.rule.specs.Sums.{sampleAt}
-use Rattle.run.specs.Rows.{flat, scanned, goodRows}
-use Rattle.run.proofs.Arrives.{InFrame}
+use Rattle.rule.specs.Sums.{Image, HasBits, sampleAt}
+use Rattle.model.specs.Rows.{flat, scanned, goodRows}
+
+-- a scan of rows of l samples of b bits
+pub record InFrame (l b : ℕ) (x : Image) : Type 0 where
+  pub above : (i : ℕ) (j : ℤ) → x (negsuc i) j ≡ 0
+  pub left : (i : ℤ) (j : ℕ) → x i (negsuc j) ≡ 0
+  pub right : (i : ℤ) (j : ℕ) → l ≤ j → x i (pos j) ≡ 0
+  pub bits : HasBits b x
 
 -- rows that are good
 pub record Good (l b : ℕ) (row : List ℕ) (rows : List (List ℕ)) : Type 0 where

@@ -1,19 +1,15 @@
 -- The rows of an arrival: those that the edges reach, and the one that is due.
 -- Assumes nothing.
-use Prim.Native.Nat.{ℕ, suc, _+_, _-_, _*_, _/_, _^_, _≤_, _<_}
+use Prim.Native.Nat.{ℕ, suc, _+_}
 use native.Mathlib.Omega.{arith}
-use mathlib.Core.Path.{_≡_, refl, sym, ap, _∙_}
-use lib.IntN.{ℤ, pos, negsuc, subℕ, _+ℤ_, _-ℤ_}
-use Rattle.arith.specs.Sum.{sum}
-use Rattle.arith.specs.Part.{posPart, negPart}
-use Rattle.arith.specs.Diff.{Diff}
-use Rattle.arith.proofs.Sums.{sum-cong, sum-suc, sum-first}
+use mathlib.Core.Path.{_≡_}
+use lib.IntN.{ℤ, pos, subℕ, _+ℤ_, _-ℤ_}
+use Rattle.arith.specs.Part.{posPart}
 use Rattle.arith.proofs.Ints.{diff-parts, diff-add, diff-minus, diff-pos, diff-sub, diff-eq}
 use Rattle.layout.specs.declared.Rect.{Rect}
-use Rattle.layout.specs.declared.Table.{Table}
-use Rattle.layout.specs.Measure.{rowsOf, colsOf, delayOf}
-use Rattle.limits.proofs.Bounds.{Edges, extent, RectBounds}
-use Rattle.rule.specs.Sums.{Image, covered, columnSum}
+use Rattle.layout.specs.Measure.{rowsOf}
+use Rattle.limits.proofs.Bounds.{extent, RectBounds}
+use Rattle.rule.specs.Sums.{covered}
 
 -- the rows that the edges reach at arrival a, from the sum of the arrival before
 
