@@ -15,7 +15,7 @@ use Rattle.layout.specs.Answers.{refused, accepted, waiting, done, asks, firstN
 use Rattle.layout.specs.Sequences.{replies, ended}
 use Rattle.layout.proofs.Questions.{AllYes, each-way}
 use Rattle.model.specs.Rows.{goodRows}
-use Rattle.model.specs.Machines.{Filter, Call, rowCall, closeCall, stepCall, Machine, machine, opened, dueLeft, machineAsks, withRow, withStep, machineRow, machineClose, machineStep, answers}
+use Rattle.model.specs.Machines.{Filter, Call, rowCall, closeCall, stepCall, Machine, opened, dueLeft, machineAsks, withRow, withStep, machineRow, machineClose, machineStep, answers}
 use Rattle.model.specs.Wholes.{Settled, numbersOf, rowsOut, wholeCalls}
 use Rattle.model.proofs.Wholes.{machine-ends}
 

@@ -17,7 +17,7 @@ use Rattle.rule.specs.Questions.{sampleGood}
 use Rattle.model.specs.Rows.{goodRows}
 use Rattle.model.specs.Machines.{Filter, Call, Machine, machine, opened, dueLeft, machineAsks, machineRow, machineClose, machineStep, answers}
 use Rattle.model.specs.Wholes.{Settled, rowCalls, stepCalls, wholeCalls, dueReply, dueReplies, wholeReplies}
-use Rattle.model.proofs.Rows.{Good, good, good-append, good-one}
+use Rattle.model.proofs.Rows.{good, good-append, good-one}
 use Rattle.model.proofs.Dues.{due-state, due-reply, due-later}
 
 -- a machine that is open with these rows

@@ -1,13 +1,12 @@
 -- Rows given one by one to two things that take each row alike.
 -- Assumes nothing.
-use Prim.Native.Nat.{ℕ, zero, suc, _+_, _*_}
-use mathlib.Core.Path.{_≡_, refl, ap, ap₂, subst, sym}
+use Prim.Native.Nat.{ℕ, zero, suc, _*_}
+use mathlib.Core.Path.{_≡_, refl, ap}
 use mathlib.Core.Bool.{Bool, true, false, cond}
 use mathlib.Core.List.{List}
 use lib.IntN.{ℤ}
-use lib.ListN.{length, take, drop}
-use Rattle.arith.specs.Tab.{paste}
-use Rattle.layout.specs.Answers.{Said, Left}
+use lib.ListN.{take, drop}
+use Rattle.layout.specs.Answers.{Left}
 use Rattle.layout.specs.Sequences.{replyOf}
 use Rattle.burst.specs.Bursts.{Progress, isRefused, rowSaid, nextLeft, counted, feed, burstLeft}
 

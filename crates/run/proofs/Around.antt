@@ -1,20 +1,19 @@
 -- What stands around a sequence of calls: files, the one-pixel call, refused starts and tables.
 -- Assumes nothing.
-use Prim.Native.Nat.{ℕ, _+_, _*_, _/_, _^_, _-_, _≤_, _<_}
+use Prim.Native.Nat.{ℕ, _*_, _/_, _^_, _-_, _≤_, _<_}
 use native.Mathlib.Nat.{mul-div-cancel, mul-comm}
 use native.Mathlib.Omega.{arith}
-use mathlib.Core.Path.{_≡_, refl, sym, ap, _∙_, subst}
-use mathlib.Core.Bool.{Bool, true, false, not, cond, _&&_}
+use mathlib.Core.Path.{_≡_, refl, ap, _∙_}
+use mathlib.Core.Bool.{Bool, true, false, _&&_}
 use mathlib.Core.List.{List, [], _∷_}
-use lib.Dec.{T, leb, ltb, eqb}
-use lib.IntN.{ℤ, pos}
+use lib.Dec.{T}
+use lib.IntN.{pos}
 use lib.ListN.{length}
-use borrow.Author.Tests.{le-leb, le-ltb, lt-ltb, eq-eqb}
+use borrow.Author.Tests.{le-leb, lt-ltb, eq-eqb}
 use Rattle.arith.specs.All.{all}
 use Rattle.arith.proofs.Bools.{true-of}
 use Rattle.layout.specs.declared.Table.{Table}
 use Rattle.layout.specs.Contents.{Contents}
-use Rattle.layout.specs.Measure.{delayOf}
 use Rattle.layout.specs.Answers.{Said, refused, accepted, Left, left}
 use Rattle.layout.specs.Sequences.{replies}
 use Rattle.layout.proofs.Questions.{each-way}
@@ -26,7 +25,6 @@ use Rattle.rule.specs.Pixels.{pixelOf}
 use Rattle.rule.proofs.Asked.{width-bounds}
 use Rattle.pixel.specs.Call.{pixelAsks, pixelAnswer}
 use Rattle.arrival.specs.Arrivals.{storesGood}
-use Rattle.scan.specs.declared.Scan.{Scan}
 use Rattle.scan.specs.Calls.{World, world, agrees, fresh, startAsks, startOf, rowAsks, rowOf, closeOf, stepOf}
 use Rattle.burst.specs.Bursts.{withCounts, burstAsks, burstOf}
 use Rattle.model.specs.Rows.{flat, scanned, goodRows}

@@ -1,6 +1,6 @@
 -- B-pixels: the rows that a burst packs are the pixel rule's.
 -- Assumes nothing.
-use Prim.Native.Nat.{ℕ, zero, suc, _+_, _-_, _*_, _/_, _%_, _^_, _≤_, _<_}
+use Prim.Native.Nat.{ℕ, zero, suc, _+_, _-_, _*_, _/_, _%_, _≤_, _<_}
 use native.Mathlib.Nat.{div-mul-le-self, le-trans, mul-le-mul-right, add-zero}
 use native.Mathlib.Omega.{arith}
 use mathlib.Core.Path.{_≡_, refl, sym, ap, ap₂, _∙_, subst}
@@ -9,20 +9,17 @@ use mathlib.Core.List.{List, [], _∷_, _++_, append-assoc, append-nil}
 use lib.Dec.{T, leb, ltb, eqb, ltb→lt, nltb→le}
 use lib.IntN.{ℤ, pos}
 use lib.ListN.{length, take, drop, length-append, length-drop, drop-of-length-le}
-use borrow.Author.Tests.{leb-true, not-true}
+use borrow.Author.Tests.{leb-true}
 use Rattle.arith.specs.Tab.{tab, grid, paste}
 use Rattle.arith.proofs.Parts.{part-long, paste-own}
-use Rattle.arith.proofs.Passes.{pass-length, length-grid, grid-none}
+use Rattle.arith.proofs.Passes.{length-grid, grid-none}
 use Rattle.arith.proofs.Grids.{grid-cong, grid-paste}
-use Rattle.arith.proofs.Tabs.{length-tab}
 use Rattle.layout.specs.declared.Table.{Table}
 use Rattle.layout.specs.Answers.{Said, refused, accepted, waiting, asks, Left, left}
-use Rattle.layout.specs.Measure.{delayOf}
 use Rattle.layout.specs.Sequences.{replyOf, ended}
 use Rattle.layout.proofs.Questions.{AllYes, each-way}
-use Rattle.rule.specs.Pixels.{pixelOf}
 use Rattle.scan.specs.Calls.{startOf}
-use Rattle.burst.specs.Bursts.{Progress, progress, isRefused, rowSaid, nextLeft, counted, feed, burstLeft, noRows, allRows, burstOf}
+use Rattle.burst.specs.Bursts.{Progress, progress, isRefused, nextLeft, counted, feed, burstLeft, noRows, burstOf}
 use Rattle.model.specs.Rows.{goodRows}
 use Rattle.model.specs.Machines.{Filter, Machine, machine, opened, dueLeft, machineAsks, withRow, machineRow}
 use Rattle.model.specs.Wholes.{Settled}

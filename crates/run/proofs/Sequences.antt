@@ -1,11 +1,11 @@
 -- SEQ: the engine answers every list of calls as the machine does.
 -- Assumes nothing.
-use Prim.Native.Nat.{ℕ, _+_, _-_, _*_, _/_, _%_, _≤_, _<_}
+use Prim.Native.Nat.{ℕ, _+_, _*_, _/_, _%_, _≤_, _<_}
 use native.Mathlib.Omega.{arith}
 use mathlib.Core.Path.{_≡_, refl, sym, ap, _∙_, subst}
 use mathlib.Core.Bool.{Bool, true, false, not, cond}
 use mathlib.Core.List.{List, [], _∷_, _++_}
-use lib.Dec.{T, leb, ltb, eqb, nleb→lt}
+use lib.Dec.{T, leb, eqb, nleb→lt}
 use lib.IntN.{ℤ, pos}
 use lib.ListN.{length, getD, length-append}
 use borrow.Author.Tests.{le-leb}

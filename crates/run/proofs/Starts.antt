@@ -1,6 +1,6 @@
 -- The stores of a started scan, and of two scans that agree on the arrivals so far.
 -- Assumes nothing.
-use Prim.Native.Nat.{ℕ, suc, _+_, _*_, _^_, _≤_, _<_}
+use Prim.Native.Nat.{ℕ, suc, _+_, _*_, _^_, _<_}
 use native.Mathlib.Nat.{le-trans, le-of-eq, mul-le-mul-right, zero-div}
 use native.Mathlib.Omega.{arith}
 use mathlib.Core.Path.{_≡_, sym, _∙_}

@@ -1,29 +1,26 @@
 -- The stores of a run, from one arrival to the next.
 -- Assumes nothing.
-use Prim.Native.Nat.{ℕ, zero, suc, _+_, _-_, _*_, _/_, _%_, _^_, _≤_, _<_}
-use native.Mathlib.Nat.{mod-lt, mul-le-mul-right, le-trans, le-of-eq}
+use Prim.Native.Nat.{ℕ, _+_, _-_, _*_, _%_, _≤_, _<_}
+use native.Mathlib.Nat.{mod-lt, mul-le-mul-right}
 use native.Mathlib.Omega.{arith}
-use mathlib.Core.Path.{_≡_, refl, sym, ap, _∙_, subst}
+use mathlib.Core.Path.{_≡_, refl, ap, _∙_}
 use mathlib.Core.Bool.{Bool, true, false, not, cond}
 use mathlib.Core.List.{List, _++_}
 use lib.Dec.{T, ltb, nltb→le}
-use lib.IntN.{ℤ, pos, subℕ}
+use lib.IntN.{ℤ, pos}
 use lib.ListN.{length, getD, take, drop, length-append, length-drop}
-use lib.Seq.{length-take-le, take-at}
+use lib.Seq.{length-take-le}
 use Rattle.arith.specs.All.{all}
 use Rattle.arith.specs.Tab.{tab, grid, paste}
-use Rattle.arith.proofs.Passes.{length-grid, pass-length}
-use Rattle.arith.proofs.Tabs.{length-tab, tab-cong}
+use Rattle.arith.proofs.Passes.{length-grid}
+use Rattle.arith.proofs.Tabs.{tab-cong}
 use Rattle.arith.proofs.Ints.{sub-high}
 use Rattle.layout.specs.declared.Table.{Table}
-use Rattle.layout.specs.Contents.{rect}
 use Rattle.layout.specs.Measure.{delayOf}
 use Rattle.limits.specs.Limits.{acceptable}
-use Rattle.rule.specs.Sums.{Image, columnSum}
+use Rattle.rule.specs.Sums.{Image}
 use Rattle.rule.specs.Pixels.{pixelOf}
-use borrow.Author.Tests.{lt-ltb, le-ltb}
 use Rattle.arrival.specs.Arrivals.{Arrival, stored, newSum, sumGood, pixelAt, samplesAfter, sumsAfter, outputAfter}
-use Rattle.ring.specs.Ring.{Kept}
 use Rattle.ring.proofs.Kept.{kept-next}
 use Rattle.model.proofs.Rows.{InFrame}
 use Rattle.run.specs.Holds.{Stores}

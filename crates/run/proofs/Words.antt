@@ -1,7 +1,7 @@
 -- W3: the sums that the engine carries fit their words after each of their two steps, at every arrival of every sequence.
 -- Assumes nothing.
 use Prim.Native.Nat.{ℕ, _+_, _-_, _<_}
-use mathlib.Core.Path.{_≡_, sym, ap₂, _∙_, subst}
+use mathlib.Core.Path.{_≡_, ap₂}
 use mathlib.Core.Bool.{true}
 use mathlib.Core.List.{List, [], _∷_, _++_}
 use lib.IntN.{ℤ}
@@ -14,7 +14,7 @@ use Rattle.rule.specs.Sums.{Image}
 use Rattle.rule.specs.Steps.{columnLess, columnNext, leavingSample, enteringSample}
 use Rattle.rule.proofs.Steps.{steps-fit}
 use Rattle.arrival.specs.Arrivals.{Arrival, newSum}
-use Rattle.scan.specs.Calls.{World, world, startOf, rowArrival, closingOf}
+use Rattle.scan.specs.Calls.{World, startOf, rowArrival, closingOf}
 use Rattle.model.specs.Rows.{scanned}
 use Rattle.model.specs.Machines.{Machine, opened, machineAsks}
 use Rattle.run.specs.Holds.{Starts}
