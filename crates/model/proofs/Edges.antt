@@ -19,7 +19,8 @@ leaving-row a delay trail =
     let q = diff-parts trail in
     diff-eq (diff-add (diff-add (diff-sub a (suc delay)) q) (diff-pos 1)) (diff-add (diff-minus (diff-pos a) (diff-pos delay)) q) (omega arith)
 
-pub entering-row : (a delay : ℕ) (d : Rect) → RectBounds d → covered (subℕ a (suc delay)) (d .trailrow) (rowsOf d) ≡ (pos a -ℤ pos delay) +ℤ d .leadrow
+pub entering-row : (a delay : ℕ) (d : Rect) → RectBounds d
+    → covered (subℕ a (suc delay)) (d .trailrow) (rowsOf d) ≡ (pos a -ℤ pos delay) +ℤ d .leadrow
 unfolding covered rowsOf
 entering-row a delay d b =
     let e = extent (b .row) in

@@ -15,7 +15,8 @@ use Rattle.layout.specs.Answers.{refused, accepted, waiting, done, asks, firstN
 use Rattle.layout.specs.Sequences.{replies, ended}
 use Rattle.layout.proofs.Questions.{AllYes, each-way}
 use Rattle.model.specs.Rows.{goodRows}
-use Rattle.model.specs.Machines.{Filter, Call, rowCall, closeCall, stepCall, Machine, opened, dueLeft, machineAsks, withRow, withStep, machineRow, machineClose, machineStep, answers}
+use Rattle.model.specs.Machines.{Filter, Call, rowCall, closeCall, stepCall, Machine, opened, withRow, withStep}
+use Rattle.model.specs.Machines.{dueLeft, machineAsks, machineRow, machineClose, machineStep, answers}
 use Rattle.model.specs.Wholes.{Settled, numbersOf, rowsOut, wholeCalls}
 use Rattle.model.proofs.Wholes.{machine-ends}
 
@@ -122,7 +123,8 @@ module _ (f : Filter) where
   goes m h (stepCall out) = goes-step m h out
 
   all-go : (m : Machine) → Whole m → (cs : List Call)
-      → (numbersOf (replies (answers f) m cs) ≡ range (rowsOut f m) (rowsOut f (ended (answers f) m cs))) × (rowsOut f m ≤ rowsOut f (ended (answers f) m cs))
+      → (numbersOf (replies (answers f) m cs) ≡ range (rowsOut f m) (rowsOut f (ended (answers f) m cs)))
+      × (rowsOut f m ≤ rowsOut f (ended (answers f) m cs))
   unfolding numbersOf replies ended
   all-go m h [] = (range-none (rowsOut f m), omega arith)
   all-go m h (c ∷ cs) =
@@ -131,10 +133,8 @@ module _ (f : Filter) where
       let r = all-go (x .state) (g .whole) cs in
       let p = g .more in
       let q = r .1 in
-      (
-        ap₂ _++_ (g .numbers) (r .0) ∙ range-append (rowsOut f m) (rowsOut f (x .state)) (rowsOut f (ended (answers f) (x .state) cs)) p q,
-        omega arith,
-      )
+      let e = range-append (rowsOut f m) (rowsOut f (x .state)) (rowsOut f (ended (answers f) (x .state) cs)) p q in
+      (ap₂ _++_ (g .numbers) (r .0) ∙ e, omega arith)
 
   -- For every list of calls, refused ones mixed in, the numbers of the rows that come out are 0, 1, 2 and so on, each once and in order, up to
   -- the number of arrivals less D.

@@ -12,7 +12,8 @@ use Rattle.layout.specs.Answers.{refused, left}
 use Rattle.model.specs.Machines.{Filter, Machine, machineAsks, machineRow}
 
 -- Q1: a row to a closed machine is refused with 15
-pub closed-refuses : (f : Filter) (m : Machine) → m .closed ≡ true → (row : List ℕ) (out : List ℤ) → machineRow f m row out ≡ left (refused 15 0) m out
+pub closed-refuses : (f : Filter) (m : Machine) → m .closed ≡ true → (row : List ℕ) (out : List ℤ)
+    → machineRow f m row out ≡ left (refused 15 0) m out
 unfolding machineRow machineAsks
 closed-refuses f m e row out = rw e refl
 

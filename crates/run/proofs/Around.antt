@@ -46,7 +46,8 @@ pub file-sequence : (bs : List ℕ) (c : Contents) → Bytes bs → loadOf bs �
     → storesGood l (tableFrom (loadOf bs) .count) (length samples) (length sums) ≡ true
     → (cs : List Call)
     → replies engine (startOf (tableFrom (loadOf bs)) l samples sums .state) cs ≡ replies (answers (filterOf (tableFrom (loadOf bs)) l)) opened cs
-file-sequence bs c byte e l samples sums wide long = sequence (tableFrom (loadOf bs)) l samples sums (file-starts bs c byte e l samples sums wide long)
+file-sequence bs c byte e l samples sums wide long =
+    sequence (tableFrom (loadOf bs)) l samples sums (file-starts bs c byte e l samples sums wide long)
 
 -- ---- the one-pixel call
 

@@ -64,7 +64,10 @@ module _ (f : Filter) (settles : Settled f) (m : Machine) (rows : List ℕ) (out
   slice-length : (k : ℕ) → length (rowsOfSlice l k rows) ≡ k
   unfolding rowsOfSlice
   slice-length zero = refl
-  slice-length (suc k) = length-append (rowsOfSlice l k rows) _ ∙ (let e = slice-length k in let z : length (rowsOfSlice l k rows) + 1 ≡ suc k = omega arith in z)
+  slice-length (suc k) =
+      let e = slice-length k in
+      let z : length (rowsOfSlice l k rows) + 1 ≡ suc k = omega arith in
+      length-append (rowsOfSlice l k rows) _ ∙ z
 
   rows-length : (k : ℕ) → length (R k) ≡ h + k
   rows-length k = length-append (m .rows) (rowsOfSlice l k rows) ∙ ap (λ i. h + i) (slice-length k)
@@ -89,7 +92,8 @@ module _ (f : Filter) (settles : Settled f) (m : Machine) (rows : List ℕ) (out
     good-so-far : T (goodRows l (f .bits) (R k))
     is : p ≡ progress (p .said) (M k) (O k) k (F k)
 
-  same-progress : {s : Said} {x y : Machine} {o o′ : List ℤ} {a a′ b b′ : ℕ} → x ≡ y → o ≡ o′ → a ≡ a′ → b ≡ b′ → progress s x o a b ≡ progress s y o′ a′ b′
+  same-progress : {s : Said} {x y : Machine} {o o′ : List ℤ} {a a′ b b′ : ℕ} → x ≡ y → o ≡ o′ → a ≡ a′ → b ≡ b′
+      → progress s x o a b ≡ progress s y o′ a′ b′
   same-progress e f g h = rw (e, f, g, h) refl
 
   module _ (k : ℕ) (less : k < n) (g : T (goodRows l (f .bits) (R k))) (s : Said) where
@@ -136,7 +140,9 @@ module _ (f : Filter) (settles : Settled f) (m : Machine) (rows : List ℕ) (out
     module _ (y : AllYes (machineAsks f (M k) (row k) (length lent))) where
       more : T (goodRows l (f .bits) (R (suc k)))
       unfolding machineAsks
-      more = subst (λ rs. T (goodRows l (f .bits) rs)) (rows-more k) (good-append l (f .bits) (R k) (row k ∷ []) g (good-one l (f .bits) (row k) (y .1 .1 .0) (y .1 .1 .1 .1 .0)))
+      more =
+          subst (λ rs. T (goodRows l (f .bits) rs)) (rows-more k)
+          (good-append l (f .bits) (R k) (row k ∷ []) g (good-one l (f .bits) (row k) (y .1 .1 .0) (y .1 .1 .1 .1 .0)))
 
       next : Machine
       next = withRow (M k) (row k)
@@ -256,7 +262,8 @@ machine-packs f s m good rows out =
     (asks 15 (not (m .closed)) ∷ asks 21 (eqb (length rows % f .width) 0) ∷ asks 13 (leb (length rows) (length out)) ∷ []) (noRows m out) _
     (λ i p. refusal i p)
     (λ y. let fits = le-trans (div-mul-le-self (length rows) (f .width)) (leb-true (length rows) (length out) (y .1 .1 .0)) in
-    packed f s m rows out n fits good _ (along f s m rows out n fits good n (progress (accepted []) m out 0 0) (none f s m rows out n fits good) (omega arith)))
+    packed f s m rows out n fits good _
+    (along f s m rows out n fits good n (progress (accepted []) m out 0 0) (none f s m rows out n fits good) (omega arith)))
   where
     refusal : (i p : ℕ) → Packed f m rows out (replyOf (noRows m out i p))
     refusal i p =
@@ -265,7 +272,8 @@ machine-packs f s m good rows out =
 
 -- B-pixels. After every list of calls, a burst of any rows with any output: what it says and leaves is packed rows of the pixel rule.
 pub burst-pixels : (t : Table) (l : ℕ) (samples sums : List ℕ) → Starts t l samples sums → (cs : List Call) (rows : List ℕ) (out : List ℤ)
-    → Packed (filterOf t l) (ended (answers (filterOf t l)) opened cs) rows out (replyOf (burstOf (ended engine (startOf t l samples sums .state) cs) rows out))
+    → Packed (filterOf t l) (ended (answers (filterOf t l)) opened cs) rows out
+    (replyOf (burstOf (ended engine (startOf t l samples sums .state) cs) rows out))
 unfolding engine answers
 burst-pixels t l samples sums s cs rows out =
     let r = sequence-stores t l samples sums s cs in

@@ -16,7 +16,7 @@ use Rattle.arith.proofs.Tabs.{length-tab, getD-tab}
 use Rattle.layout.specs.declared.Table.{Table}
 use Rattle.layout.specs.Answers.{refused, accepted, done, asks, firstNo, Left, left}
 use Rattle.layout.specs.Measure.{delayOf}
-use Rattle.layout.specs.Sequences.{reply, replyOf, replies, ended}
+use Rattle.layout.specs.Sequences.{replies, ended}
 use Rattle.layout.proofs.Questions.{AllYes, same-questions}
 use Rattle.layout.proofs.Sequences.{simulates}
 use Rattle.limits.specs.Limits.{acceptable}
@@ -26,12 +26,14 @@ use Rattle.rule.proofs.Mended.{length-mended}
 use Rattle.ring.specs.Ring.{Kept}
 use Rattle.arrival.specs.Arrivals.{Arrival, storesGood, sumGood, arrivalAsks, samplesAfter, sumsAfter}
 use Rattle.scan.specs.declared.Scan.{Scan}
-use Rattle.scan.specs.Calls.{World, world, agrees, lentGood, startAsks, startOf, arrivalOf, rowArrival, dueSaid, takenIn, rowIn, rowAsks, rowOf, shut, closeOf, stepIn, closingOf, stepOf}
+use Rattle.scan.specs.Calls.{World, world, agrees, lentGood, startAsks, startOf, arrivalOf, dueSaid, takenIn}
+use Rattle.scan.specs.Calls.{rowArrival, rowIn, rowAsks, rowOf, shut, closeOf, stepIn, closingOf, stepOf}
 use Rattle.burst.specs.Bursts.{progress, allRows, noRows, burstAsks, burstOf}
 use Rattle.model.specs.Rows.{scanned, goodRows}
-use Rattle.model.specs.Machines.{Filter, rowCall, closeCall, stepCall, Machine, opened, dueLeft, machineAsks, withRow, shutDown, withStep, machineRow, machineClose, machineStep, answers as answersSingle}
+use Rattle.model.specs.Machines.{Filter, rowCall, closeCall, stepCall, Machine, opened, withRow, shutDown, withStep}
+use Rattle.model.specs.Machines.{dueLeft, machineAsks, machineRow, machineClose, machineStep, answers as answersSingle}
 use Rattle.model.proofs.Rows.{InFrame, rows-framed, row-at, below, more-agrees, more-above, last-row}
-use Rattle.model.proofs.Dues.{due-parts, due-state}
+use Rattle.model.proofs.Dues.{Agree, due-agrees}
 use Rattle.model.proofs.Fair.{Fair, opened-fair, Known, row-known, row-fair, shut-fair, step-fair}
 use Rattle.run.specs.Holds.{Starts, Stores}
 use Rattle.run.specs.Sequences.{filterOf, Call, single, rowsCall, engine, machineRows, answers}
@@ -65,10 +67,6 @@ on-world t l w m r P k =
     subst (λ s. P (world s (w .samples) (w .sums))) (sym (r .scan))
     (k record { table = r .table; width = r .width; fair = r .fair; scan = refl; stores = r .stores })
 
--- a call is answered alike, and the relation kept
-abbrev pub Agree : Table → (l : ℕ) → Left World → Left Machine → Type 0
-Agree t l x y = (replyOf x ≡ replyOf y) × Follows t l (x .state) (y .state)
-
 -- ---- one call
 
 module _ (t : Table) (l : ℕ) (m : Machine) (samples sums : List ℕ) (r : Follows t l (world (stateOf t l m) samples sums) m) where
@@ -97,12 +95,12 @@ module _ (t : Table) (l : ℕ) (m : Machine) (samples sums : List ℕ) (r : Foll
   abbrev halts : List ℤ → (n p : ℕ) → Left Machine
   halts out n p = left (refused n p) m out
 
-  close-case : Agree t l (closeOf here) (machineClose m)
+  close-case : Agree (Follows t l) (closeOf here) (machineClose m)
   unfolding closeOf machineClose
   close-case =
       rw state-good
-      (same-questions (Agree t l) (asks 15 (not (m .closed)) ∷ []) (halt []) (left (accepted []) (world (shut (stateOf t l m)) samples sums) [])
-      (halts []) (left (accepted []) (shutDown m) []) (λ n p. (refl, r))
+      (same-questions (Agree (Follows t l)) (asks 15 (not (m .closed)) ∷ []) (halt [])
+      (left (accepted []) (world (shut (stateOf t l m)) samples sums) []) (halts []) (left (accepted []) (shutDown m) []) (λ n p. (refl, r))
       (λ y. (refl, record { table = r .table; width = r .width; fair = shut-fair f m (r .fair); scan = refl; stores = r .stores })))
 
   -- an arrival of these rows
@@ -123,14 +121,11 @@ module _ (t : Table) (l : ℕ) (m : Machine) (samples sums : List ℕ) (r : Foll
 
     -- the machine after it, whichever it is
     arrives : (after : Scan) (after′ : Machine) → Follows t l (world after (samplesAfter v) (sumsAfter v)) after′
-        → Agree t l (takenIn here after v out) (dueLeft f a rows out after′)
+        → Agree (Follows t l) (takenIn here after v out) (dueLeft f a rows out after′)
     unfolding dueSaid
     arrives after after′ k =
-        (
-          ap (reply (dueSaid (stateOf t l m))) (output-is t l (scanned l rows) a row samples sums (r .table) framed is found out)
-          ∙ sym (ap replyOf (due-parts f a rows out after′)),
-          subst (Follows t l (world after (samplesAfter v) (sumsAfter v))) (sym (due-state f a rows out after′)) k,
-        )
+        due-agrees f a rows (Follows t l) (takenIn here after v out) out after′ refl
+        (output-is t l (scanned l rows) a row samples sums (r .table) framed is found out) k
 
     next : length row ≡ l → (n : ℕ) → a + 1 ≡ n → Stores t l (scanned l rows) n (samplesAfter v) (sumsAfter v)
     next long n e =
@@ -162,23 +157,27 @@ module _ (t : Table) (l : ℕ) (m : Machine) (samples sums : List ℕ) (r : Foll
     row-never : all (t .count) (λ k. all l (sumGood (rowArrival here row) k)) ≡ true
     row-never = says more (mended row) out (known .good) is-last found-more
 
-    taken : Agree t l (takenIn here (rowIn (stateOf t l m)) (rowArrival here row) out) (dueLeft f (length (m .rows)) more out (withRow m row))
+    abbrev in-it : Left World
+    in-it = takenIn here (rowIn (stateOf t l m)) (rowArrival here row) out
+
+    taken : Agree (Follows t l) in-it (dueLeft f (length (m .rows)) more out (withRow m row))
     taken =
         let n : length more ≡ length (m .rows) + 1 = length-append (m .rows) (row ∷ []) in
-        subst (λ i. Agree t l (takenIn here (rowIn (stateOf t l m)) (rowArrival here row) out) (dueLeft f i more out (withRow m row))) at-row
+        let long = length-mended row ∙ known .long in
+        subst (λ i. Agree (Follows t l) in-it (dueLeft f i more out (withRow m row))) at-row
         (arrives more (mended row) out (known .good) is-last found-more (rowIn (stateOf t l m)) (withRow m row) record {
           table = r .table;
           width = r .width;
           fair = row-fair f m (r .fair) row known;
           scan = ap (λ (i : ℕ). record { table = t; width = l; rows = i; steps = m .steps; closed = m .closed }) (sym n);
-          stores = next more (mended row) out (known .good) is-last found-more (length-mended row ∙ known .long) (length more + m .steps) (omega arith);
+          stores = next more (mended row) out (known .good) is-last found-more long (length more + m .steps) (omega arith);
         })
 
-  row-case : (row : List ℕ) (out : List ℤ) → Agree t l (rowOf here row out) (machineRow f m row out)
+  row-case : (row : List ℕ) (out : List ℤ) → Agree (Follows t l) (rowOf here row out) (machineRow f m row out)
   unfolding rowOf rowAsks arrivalAsks machineRow machineAsks
   row-case row out =
       rw (state-good, lent-good (length out))
-      (same-questions (Agree t l) (machineAsks f m row (length out)) (halt out)
+      (same-questions (Agree (Follows t l)) (machineAsks f m row (length out)) (halt out)
       (cond (all (t .count) (λ k. all l (sumGood (rowArrival here row) k))) (takenIn here (rowIn (stateOf t l m)) (rowArrival here row) out)
       (halt out 19 (firstNot (t .count) (λ k. all l (sumGood (rowArrival here row) k)))))
       (halts out) (dueLeft f (length (m .rows)) (m .rows ++ (row ∷ [])) out (withRow m row))
@@ -198,21 +197,22 @@ module _ (t : Table) (l : ℕ) (m : Machine) (samples sums : List ℕ) (r : Foll
     step-never : all (t .count) (λ k. all l (sumGood (closingOf here) k)) ≡ true
     step-never = says (m .rows) zeros out (r .fair .good) is-dark (r .stores)
 
-    stepped : Agree t l (takenIn here (stepIn (stateOf t l m)) (closingOf here) out) (dueLeft f a (m .rows) out (withStep m))
+    stepped : Agree (Follows t l) (takenIn here (stepIn (stateOf t l m)) (closingOf here) out) (dueLeft f a (m .rows) out (withStep m))
     stepped =
+        let long : length zeros ≡ l = length-tab l (λ k. 0) in
         arrives (m .rows) zeros out (r .fair .good) is-dark (r .stores) (stepIn (stateOf t l m)) (withStep m) record {
           table = r .table;
           width = r .width;
           fair = step-fair f m (r .fair) shuts h;
           scan = refl;
-          stores = next (m .rows) zeros out (r .fair .good) is-dark (r .stores) (length-tab l (λ k. 0)) (length (m .rows) + (m .steps + 1)) (omega arith);
+          stores = next (m .rows) zeros out (r .fair .good) is-dark (r .stores) long (length (m .rows) + (m .steps + 1)) (omega arith);
         }
 
-  step-case : (out : List ℤ) → Agree t l (stepOf here out) (machineStep f m out)
+  step-case : (out : List ℤ) → Agree (Follows t l) (stepOf here out) (machineStep f m out)
   unfolding stepOf machineStep arrivalAsks
   step-case out =
       rw (state-good, lent-good (length out))
-      (same-questions (Agree t l) (asks 15 (m .closed) ∷ []) (halt out)
+      (same-questions (Agree (Follows t l)) (asks 15 (m .closed) ∷ []) (halt out)
       (cond (leb (delayOf t) (m .steps)) (left done here out) (firstNo (asks 13 (leb l (length out)) ∷ []) (halt out) late))
       (halts out) (cond (leb (delayOf t) (m .steps)) (left done m out) (firstNo (asks 13 (leb l (length out)) ∷ []) (halts out) late′))
       (λ n p. (refl, r)) (λ y. go (y .0) (leb (delayOf t) (m .steps)) (nleb→lt (delayOf t) (m .steps))))
@@ -226,42 +226,51 @@ module _ (t : Table) (l : ℕ) (m : Machine) (samples sums : List ℕ) (r : Foll
       late′ = dueLeft f a (m .rows) out (withStep m)
 
       go : m .closed ≡ true → (b : Bool) → (T (not b) → m .steps < delayOf t)
-          → Agree t l (cond b (left done here out) (firstNo (asks 13 (leb l (length out)) ∷ []) (halt out) late))
+          → Agree (Follows t l) (cond b (left done here out) (firstNo (asks 13 (leb l (length out)) ∷ []) (halt out) late))
           (cond b (left done m out) (firstNo (asks 13 (leb l (length out)) ∷ []) (halts out) late′))
       go c true h = (refl, r)
       go c false h =
-          same-questions (Agree t l) (asks 13 (leb l (length out)) ∷ []) (halt out) late (halts out) late′ (λ n p. (refl, r))
+          same-questions (Agree (Follows t l)) (asks 13 (leb l (length out)) ∷ []) (halt out) late (halts out) late′ (λ n p. (refl, r))
           (λ y. rw (step-never out c (h tt)) (stepped out c (h tt)))
 
 -- ---- every call
 
 module _ (t : Table) (l : ℕ) where
-  row-kept : (w : World) (m : Machine) (row : List ℕ) (out : List ℤ) → Follows t l w m → Agree t l (rowOf w row out) (machineRow (filterOf t l) m row out)
-  row-kept w m row out r =
-      on-world t l w m r (λ w. Agree t l (rowOf w row out) (machineRow (filterOf t l) m row out)) (λ q. row-case t l m (w .samples) (w .sums) q row out)
+  abbrev mine : Filter
+  mine = filterOf t l
 
-  -- several rows
-  rows-case : (m : Machine) (samples sums : List ℕ) → Follows t l (world (stateOf t l m) samples sums) m → (rows : List ℕ) (out : List ℤ)
-      → Agree t l (burstOf (world (stateOf t l m) samples sums) rows out) (machineRows (filterOf t l) m rows out)
-  unfolding burstOf burstAsks machineRows
-  rows-case m samples sums r rows out =
-      let w = world (stateOf t l m) samples sums in
-      rw (state-good t l m samples sums r)
-      (same-questions (Agree t l) (asks 15 (not (m .closed)) ∷ asks 21 (eqb (length rows % l) 0) ∷ asks 13 (leb (length rows) (length out)) ∷ [])
-      (noRows w out) (allRows rowOf l w rows out) (noRows m out) (allRows (machineRow (filterOf t l)) l m rows out) (λ n p. (refl, r))
-      (λ y. left-alike (Follows t l) rowOf (machineRow (filterOf t l)) row-kept _ _
-      (feed-alike (Follows t l) rowOf (machineRow (filterOf t l)) row-kept l (length rows / l) rows (progress (accepted []) w out 0 0) (progress (accepted []) m out 0 0)
-      record { said = refl; out = refl; taken = refl; filtered = refl; follows = r })))
+  row-kept : (w : World) (m : Machine) (row : List ℕ) (out : List ℤ) → Follows t l w m
+      → Agree (Follows t l) (rowOf w row out) (machineRow mine m row out)
+  row-kept w m row out r =
+      on-world t l w m r (λ w. Agree (Follows t l) (rowOf w row out) (machineRow mine m row out))
+      (λ q. row-case t l m (w .samples) (w .sums) q row out)
+
+  module _ (m : Machine) (samples sums : List ℕ) (r : Follows t l (world (stateOf t l m) samples sums) m) where
+    abbrev w : World
+    w = world (stateOf t l m) samples sums
+
+    -- several rows
+    rows-case : (rows : List ℕ) (out : List ℤ) → Agree (Follows t l) (burstOf w rows out) (machineRows mine m rows out)
+    unfolding burstOf burstAsks machineRows
+    rows-case rows out =
+        rw (state-good t l m samples sums r)
+        (same-questions (Agree (Follows t l))
+        (asks 15 (not (m .closed)) ∷ asks 21 (eqb (length rows % l) 0) ∷ asks 13 (leb (length rows) (length out)) ∷ [])
+        (noRows w out) (allRows rowOf l w rows out) (noRows m out) (allRows (machineRow mine) l m rows out) (λ n p. (refl, r))
+        (λ y. left-alike (Follows t l) rowOf (machineRow mine) row-kept _ _
+        (feed-alike (Follows t l) rowOf (machineRow mine) row-kept l (length rows / l) rows (progress (accepted []) w out 0 0)
+        (progress (accepted []) m out 0 0) record { said = refl; out = refl; taken = refl; filtered = refl; follows = r })))
+
+    each-call : (c : Call) → Agree (Follows t l) (engine w c) (answers mine m c)
+    unfolding engine answers answersSingle
+    each-call (single (rowCall row out)) = row-case t l m samples sums r row out
+    each-call (single closeCall) = close-case t l m samples sums r
+    each-call (single (stepCall out)) = step-case t l m samples sums r out
+    each-call (rowsCall rows out) = rows-case rows out
 
   -- each call keeps the relation, and is answered alike
-  pub kept : (w : World) (m : Machine) (c : Call) → Follows t l w m → Agree t l (engine w c) (answers (filterOf t l) m c)
-  unfolding engine answers answersSingle
-  kept w m (single (rowCall row out)) r = row-kept w m row out r
-  kept w m (single closeCall) r = on-world t l w m r (λ w. Agree t l (closeOf w) (machineClose m)) (λ q. close-case t l m (w .samples) (w .sums) q)
-  kept w m (single (stepCall out)) r =
-      on-world t l w m r (λ w. Agree t l (stepOf w out) (machineStep (filterOf t l) m out)) (λ q. step-case t l m (w .samples) (w .sums) q out)
-  kept w m (rowsCall rows out) r =
-      on-world t l w m r (λ w. Agree t l (burstOf w rows out) (machineRows (filterOf t l) m rows out)) (λ q. rows-case m (w .samples) (w .sums) q rows out)
+  pub kept : (w : World) (m : Machine) (c : Call) → Follows t l w m → Agree (Follows t l) (engine w c) (answers mine m c)
+  kept w m c r = on-world t l w m r (λ w. Agree (Follows t l) (engine w c) (answers mine m c)) (λ q. each-call m (w .samples) (w .sums) q c)
 
 -- M-101: while a row is one of the last 32 arrivals, the sample store keeps it mended
 pub kept-mended : (t : Table) (l : ℕ) (w : World) (m : Machine) → Follows t l w m → (e c : ℕ) → e < length (m .rows)

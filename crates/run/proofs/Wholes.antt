@@ -35,7 +35,8 @@ module _ (t : Table) (l : ℕ) (samples sums : List ℕ) (s : Starts t l samples
       ≡ tab (rowsOut (filterOf t l) (ended (answersSingle (filterOf t l)) opened cs)) pos
   rows-in-order cs = ap numbersOf (one-by-one cs) ∙ in-order (filterOf t l) cs
 
-  module _ (outs : ℕ → List ℤ) (long : (a : ℕ) → l ≤ length (outs a)) (rows : List (List ℕ)) (h : T (goodRows l (t .b) rows)) (few : length rows ≤ 65535) where
+  module _ (outs : ℕ → List ℤ) (long : (a : ℕ) → l ≤ length (outs a)) (rows : List (List ℕ)) (h : T (goodRows l (t .b) rows))
+      (few : length rows ≤ 65535) where
     -- Demands 1 and 2 over a whole scan, Q1 to Q3 and Q5. For every table that loading accepts, every width from 1 to 1,024, every pair of
     -- stores long enough, whatever they hold, every list of at most 65,535 rows of L samples of b bits or dead, and outputs of at least L places:
     -- starting is accepted, and every row, the closing and every closing step is answered as it is due: waiting before arrival D, and row a - D
@@ -43,8 +44,12 @@ module _ (t : Table) (l : ℕ) (samples sums : List ℕ) (s : Starts t l samples
     pub whole-scan :
         (startOf t l samples sums .said ≡ accepted [])
         × (replies engine (startOf t l samples sums .state) (singles (wholeCalls (filterOf t l) outs rows)) ≡ wholeReplies (filterOf t l) outs rows)
-    whole-scan = (begins t l samples sums s, one-by-one (wholeCalls (filterOf t l) outs rows) ∙ machine-whole (filterOf t l) (settled t l) outs long rows h few)
+    whole-scan = (
+      begins t l samples sums s,
+      one-by-one (wholeCalls (filterOf t l) outs rows) ∙ machine-whole (filterOf t l) (settled t l) outs long rows h few,
+    )
 
     -- a whole scan of H rows gives the rows 0 to H - 1
-    pub whole-rows : numbersOf (replies engine (startOf t l samples sums .state) (singles (wholeCalls (filterOf t l) outs rows))) ≡ tab (length rows) pos
+    pub whole-rows :
+        numbersOf (replies engine (startOf t l samples sums .state) (singles (wholeCalls (filterOf t l) outs rows))) ≡ tab (length rows) pos
     whole-rows = ap numbersOf (one-by-one (wholeCalls (filterOf t l) outs rows)) ∙ whole-in-order (filterOf t l) (settled t l) outs long rows h few

@@ -53,4 +53,5 @@ module _ (t : Table) (l : ℕ) (samples sums : List ℕ) (s : Starts t l samples
   -- a closing step that is taken after any calls
   pub step-words : (out : List ℤ) → m .closed ≡ true → m .steps < delayOf t → CarriedWords (scanned l (m .rows)) (closingOf w)
   step-words out c h =
-      on-world t l w m r (λ w. CarriedWords (scanned l (m .rows)) (closingOf w)) (λ q. carried _ _ (step-finds t l m (w .samples) (w .sums) q out c h))
+      on-world t l w m r (λ w. CarriedWords (scanned l (m .rows)) (closingOf w))
+      (λ q. carried _ _ (step-finds t l m (w .samples) (w .sums) q out c h))

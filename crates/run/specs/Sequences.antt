@@ -13,7 +13,8 @@ use Rattle.rule.specs.Pixels.{pixelOf}
 use Rattle.scan.specs.Calls.{World, rowOf, closeOf, stepOf}
 use Rattle.burst.specs.Bursts.{allRows, noRows, burstOf}
 use Rattle.model.specs.Rows.{scanned}
-use Rattle.model.specs.Machines.{Filter, Call as Single, rowCall, closeCall, stepCall, outOf as outOfSingle, Machine, machineRow, answers as answersSingle}
+use Rattle.model.specs.Machines.{Filter, Machine, machineRow}
+use Rattle.model.specs.Machines.{Call as Single, rowCall, closeCall, stepCall, outOf as outOfSingle, answers as answersSingle}
 
 -- the filter of a table, over rows of l samples: the pixel rule
 abbrev pub filterOf : Table → (l : ℕ) → Filter
