@@ -2,7 +2,7 @@
 -- Assumes nothing.
 use Prim.Native.Nat.{ℕ, _-_, _≤_, _<_}
 use native.Mathlib.Omega.{arith}
-use mathlib.Core.Path.{_≡_, refl, sym, ap, ap₂, _∙_, subst}
+use mathlib.Core.Path.{_≡_, refl, ap}
 use mathlib.Core.Bool.{Bool, true, false, not, cond}
 use mathlib.Core.List.{List, [], _∷_, _++_}
 use lib.Dec.{T, ltb, nltb→le}
@@ -16,10 +16,6 @@ use Rattle.model.specs.Rows.{goodRows}
 use Rattle.model.specs.Machines.{Filter, Machine, dueLeft}
 use Rattle.model.specs.Wholes.{Settled, dueReply}
 
--- one call of an engine and of its machine: answered alike, and the relation holds after it
-abbrev pub Agree : {S M : Type 0} → (Follows : S → M → Type 0) → Left S → Left M → Type 0
-Agree Follows x y = (replyOf x ≡ replyOf y) × Follows (x .state) (y .state)
-
 -- what arrival a says, and what it leaves in the output
 abbrev pub saysDue : Filter → (a : ℕ) → Said
 saysDue f a = cond (ltb a (f .delay)) waiting (accepted (pos (a - f .delay) ∷ []))
@@ -28,7 +24,7 @@ abbrev pub leavesDue : Filter → (a : ℕ) → (rows : List (List ℕ)) → (ou
 leavesDue f a rows out = cond (ltb a (f .delay)) out (tab (f .width) (f .pixel rows (a - f .delay)) ++ drop (f .width) out)
 
 module _ (f : Filter) (a : ℕ) (rows : List (List ℕ)) where
-  due-parts : (out : List ℤ) (m : Machine) → dueLeft f a rows out m ≡ left (saysDue f a) m (leavesDue f a rows out)
+  pub due-parts : (out : List ℤ) (m : Machine) → dueLeft f a rows out m ≡ left (saysDue f a) m (leavesDue f a rows out)
   unfolding dueLeft
   due-parts out m = go (ltb a (f .delay)) (accepted (pos (a - f .delay) ∷ [])) (tab (f .width) (f .pixel rows (a - f .delay)) ++ drop (f .width) out)
     where
@@ -39,12 +35,6 @@ module _ (f : Filter) (a : ℕ) (rows : List (List ℕ)) where
   -- it leaves the machine that it is to leave
   pub due-state : (out : List ℤ) (m : Machine) → dueLeft f a rows out m .state ≡ m
   due-state out m = ap (λ x. x .state) (due-parts out m)
-
-  -- an engine's arrival that says this and leaves this agrees with the machine's, if the relation holds after them
-  pub due-agrees : {S : Type 0} (Follows : S → Machine → Type 0) (x : Left S) (out : List ℤ) (m : Machine)
-      → x .said ≡ saysDue f a → x .out ≡ leavesDue f a rows out → Follows (x .state) m → Agree Follows x (dueLeft f a rows out m)
-  due-agrees Follows x out m e o k =
-      (ap₂ reply e o ∙ sym (ap replyOf (due-parts out m)), subst (Follows (x .state)) (sym (due-state out m)) k)
 
   -- its reply is the one that is due on these rows
   pub due-reply : (outs : ℕ → List ℤ) (m : Machine) → replyOf (dueLeft f a rows (outs a) m) ≡ dueReply f rows outs a

@@ -1,6 +1,7 @@
 pub mod Rows
 pub mod Edges
 pub mod Dues
+pub mod Agrees
 pub mod Fair
 pub mod Refusals
 pub mod Wholes

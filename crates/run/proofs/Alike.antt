@@ -7,7 +7,7 @@ use mathlib.Core.List.{List}
 use lib.IntN.{ℤ}
 use lib.ListN.{take, drop}
 use Rattle.layout.specs.Answers.{Left}
-use Rattle.model.proofs.Dues.{Agree}
+use Rattle.model.proofs.Agrees.{Agree}
 use Rattle.burst.specs.Bursts.{Progress, isRefused, rowSaid, nextLeft, counted, feed, burstLeft}
 
 module _ {S M : Type 0} (Follows : S → M → Type 0) (row : S → List ℕ → List ℤ → Left S) (row′ : M → List ℕ → List ℤ → Left M) where

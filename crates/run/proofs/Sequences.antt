@@ -3,18 +3,17 @@
 use Prim.Native.Nat.{ℕ, _+_, _*_, _/_, _%_, _≤_, _<_}
 use native.Mathlib.Omega.{arith}
 use mathlib.Core.Path.{_≡_, refl, sym, ap, _∙_, subst}
-use mathlib.Core.Bool.{Bool, true, false, not, cond}
+use mathlib.Core.Bool.{true, not}
 use mathlib.Core.List.{List, [], _∷_, _++_}
-use lib.Dec.{T, leb, eqb, nleb→lt}
+use lib.Dec.{T, leb, eqb}
 use lib.IntN.{ℤ, pos}
 use lib.ListN.{length, getD, length-append}
 use borrow.Author.Tests.{le-leb}
 use Rattle.arith.specs.All.{all}
-use Rattle.arith.specs.First.{firstNot}
 use Rattle.arith.specs.Tab.{tab}
 use Rattle.arith.proofs.Tabs.{length-tab, getD-tab}
 use Rattle.layout.specs.declared.Table.{Table}
-use Rattle.layout.specs.Answers.{refused, accepted, done, asks, firstNo, Left, left}
+use Rattle.layout.specs.Answers.{accepted, asks, Left}
 use Rattle.layout.specs.Measure.{delayOf}
 use Rattle.layout.specs.Sequences.{replies, ended}
 use Rattle.layout.proofs.Questions.{AllYes, same-questions}
@@ -30,10 +29,10 @@ use Rattle.scan.specs.Calls.{World, world, agrees, lentGood, startAsks, startOf
 use Rattle.scan.specs.Calls.{rowArrival, rowIn, rowAsks, rowOf, shut, closeOf, stepIn, closingOf, stepOf}
 use Rattle.burst.specs.Bursts.{progress, allRows, noRows, burstAsks, burstOf}
 use Rattle.model.specs.Rows.{scanned, goodRows}
-use Rattle.model.specs.Machines.{Filter, rowCall, closeCall, stepCall, Machine, opened, withRow, shutDown, withStep}
+use Rattle.model.specs.Machines.{Filter, rowCall, closeCall, stepCall, Machine, opened, withRow, withStep}
 use Rattle.model.specs.Machines.{dueLeft, machineAsks, machineRow, machineClose, machineStep, answers as answersSingle}
 use Rattle.model.proofs.Rows.{InFrame, rows-framed, row-at, below, more-agrees, more-above, last-row}
-use Rattle.model.proofs.Dues.{Agree, due-agrees}
+use Rattle.model.proofs.Agrees.{Agree, due-agrees, row-agrees, close-agrees, step-agrees}
 use Rattle.model.proofs.Fair.{Fair, opened-fair, Known, row-known, row-fair, shut-fair, step-fair}
 use Rattle.run.specs.Holds.{Starts, Stores}
 use Rattle.run.specs.Sequences.{filterOf, Call, single, rowsCall, engine, machineRows, answers}
@@ -89,19 +88,12 @@ module _ (t : Table) (l : ℕ) (m : Machine) (samples sums : List ℕ) (r : Foll
   unfolding lentGood storesGood
   lent-good out = rw (le-leb _ _ (r .stores .samples-long), le-leb _ _ (r .stores .sums-long)) refl
 
-  abbrev halt : List ℤ → (n p : ℕ) → Left World
-  halt out n p = left (refused n p) here out
-
-  abbrev halts : List ℤ → (n p : ℕ) → Left Machine
-  halts out n p = left (refused n p) m out
-
   close-case : Agree (Follows t l) (closeOf here) (machineClose m)
-  unfolding closeOf machineClose
+  unfolding closeOf
   close-case =
       rw state-good
-      (same-questions (Agree (Follows t l)) (asks 15 (not (m .closed)) ∷ []) (halt [])
-      (left (accepted []) (world (shut (stateOf t l m)) samples sums) []) (halts []) (left (accepted []) (shutDown m) []) (λ n p. (refl, r))
-      (λ y. (refl, record { table = r .table; width = r .width; fair = shut-fair f m (r .fair); scan = refl; stores = r .stores })))
+      (close-agrees (Follows t l) f here m r (world (shut (stateOf t l m)) samples sums)
+      record { table = r .table; width = r .width; fair = shut-fair f m (r .fair); scan = refl; stores = r .stores })
 
   -- an arrival of these rows
   module _ (rows : List (List ℕ)) (row : List ℕ) (out : List ℤ) (good : T (goodRows l (t .b) rows))
@@ -124,7 +116,7 @@ module _ (t : Table) (l : ℕ) (m : Machine) (samples sums : List ℕ) (r : Foll
         → Agree (Follows t l) (takenIn here after v out) (dueLeft f a rows out after′)
     unfolding dueSaid
     arrives after after′ k =
-        due-agrees f a rows (Follows t l) (takenIn here after v out) out after′ refl
+        due-agrees (Follows t l) f a rows out (takenIn here after v out) after′ refl
         (output-is t l (scanned l rows) a row samples sums (r .table) framed is found out) k
 
     next : length row ≡ l → (n : ℕ) → a + 1 ≡ n → Stores t l (scanned l rows) n (samplesAfter v) (sumsAfter v)
@@ -174,14 +166,9 @@ module _ (t : Table) (l : ℕ) (m : Machine) (samples sums : List ℕ) (r : Foll
         })
 
   row-case : (row : List ℕ) (out : List ℤ) → Agree (Follows t l) (rowOf here row out) (machineRow f m row out)
-  unfolding rowOf rowAsks arrivalAsks machineRow machineAsks
+  unfolding rowOf rowAsks arrivalAsks machineAsks
   row-case row out =
-      rw (state-good, lent-good (length out))
-      (same-questions (Agree (Follows t l)) (machineAsks f m row (length out)) (halt out)
-      (cond (all (t .count) (λ k. all l (sumGood (rowArrival here row) k))) (takenIn here (rowIn (stateOf t l m)) (rowArrival here row) out)
-      (halt out 19 (firstNot (t .count) (λ k. all l (sumGood (rowArrival here row) k)))))
-      (halts out) (dueLeft f (length (m .rows)) (m .rows ++ (row ∷ [])) out (withRow m row))
-      (λ n p. (refl, r)) (λ y. rw (row-never row out y) (taken row out y)))
+      rw (state-good, lent-good (length out)) (row-agrees (Follows t l) f here m r row out _ (λ y. rw (row-never row out y) (taken row out y)))
 
   -- a closing step of a closed machine with steps left
   module _ (out : List ℤ) (shuts : m .closed ≡ true) (h : m .steps < delayOf t) where
@@ -209,29 +196,9 @@ module _ (t : Table) (l : ℕ) (m : Machine) (samples sums : List ℕ) (r : Foll
         }
 
   step-case : (out : List ℤ) → Agree (Follows t l) (stepOf here out) (machineStep f m out)
-  unfolding stepOf machineStep arrivalAsks
+  unfolding stepOf arrivalAsks
   step-case out =
-      rw (state-good, lent-good (length out))
-      (same-questions (Agree (Follows t l)) (asks 15 (m .closed) ∷ []) (halt out)
-      (cond (leb (delayOf t) (m .steps)) (left done here out) (firstNo (asks 13 (leb l (length out)) ∷ []) (halt out) late))
-      (halts out) (cond (leb (delayOf t) (m .steps)) (left done m out) (firstNo (asks 13 (leb l (length out)) ∷ []) (halts out) late′))
-      (λ n p. (refl, r)) (λ y. go (y .0) (leb (delayOf t) (m .steps)) (nleb→lt (delayOf t) (m .steps))))
-    where
-      late : Left World
-      late =
-          cond (all (t .count) (λ k. all l (sumGood (closingOf here) k))) (takenIn here (stepIn (stateOf t l m)) (closingOf here) out)
-          (halt out 19 (firstNot (t .count) (λ k. all l (sumGood (closingOf here) k))))
-
-      late′ : Left Machine
-      late′ = dueLeft f a (m .rows) out (withStep m)
-
-      go : m .closed ≡ true → (b : Bool) → (T (not b) → m .steps < delayOf t)
-          → Agree (Follows t l) (cond b (left done here out) (firstNo (asks 13 (leb l (length out)) ∷ []) (halt out) late))
-          (cond b (left done m out) (firstNo (asks 13 (leb l (length out)) ∷ []) (halts out) late′))
-      go c true h = (refl, r)
-      go c false h =
-          same-questions (Agree (Follows t l)) (asks 13 (leb l (length out)) ∷ []) (halt out) late (halts out) late′ (λ n p. (refl, r))
-          (λ y. rw (step-never out c (h tt)) (stepped out c (h tt)))
+      rw (state-good, lent-good (length out)) (step-agrees (Follows t l) f here m r out _ (λ c h. rw (step-never out c h) (stepped out c h)))
 
 -- ---- every call
 
