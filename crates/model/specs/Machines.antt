@@ -36,6 +36,7 @@ pub record Machine : Type 0 where
   pub steps : ℕ
   pub closed : Bool
 
+-- the machine with these
 abbrev pub machine : (rows : List (List ℕ)) → (steps : ℕ) → (closed : Bool) → Machine
 machine rows steps closed = record { rows = rows; steps = steps; closed = closed }
 
@@ -43,13 +44,15 @@ machine rows steps closed = record { rows = rows; steps = steps; closed = closed
 abbrev pub opened : Machine
 opened = machine [] 0 false
 
--- with one row more, closed, and with one step more
+-- with one row more
 abbrev pub withRow : Machine → (row : List ℕ) → Machine
 withRow m row = machine (m .rows ++ (row ∷ [])) (m .steps) (m .closed)
 
+-- closed
 abbrev pub shutDown : Machine → Machine
 shutDown m = machine (m .rows) (m .steps) true
 
+-- with one step more
 abbrev pub withStep : Machine → Machine
 withStep m = machine (m .rows) (m .steps + 1) (m .closed)
 

@@ -19,11 +19,12 @@ pub record Settled (f : Filter) : Type 0 where
       (rows more : List (List ℕ)) → T (goodRows (f .width) (f .bits) rows) → (r c : ℕ) → r + f .delay < length rows
       → f .pixel rows r c ≡ f .pixel (rows ++ more) r c
 
--- the rows from arrival a on, and n closing steps, where `outs a` is the output lent to arrival a
+-- the rows from arrival a on, where `outs a` is the output lent to arrival a
 unfoldable pub rowCalls : (outs : ℕ → List ℤ) → (a : ℕ) → List (List ℕ) → List Call
 rowCalls outs a [] = []
 rowCalls outs a (row ∷ rows) = rowCall row (outs a) ∷ rowCalls outs (suc a) rows
 
+-- n closing steps from arrival a on
 unfoldable pub stepCalls : (outs : ℕ → List ℤ) → (a n : ℕ) → List Call
 stepCalls outs a zero = []
 stepCalls outs a (suc n) = stepCall (outs a) ∷ stepCalls outs (suc a) n
