@@ -1,21 +1,16 @@
 -- Rows given one by one to two things that take each row alike.
 -- Assumes nothing.
-use Prim.Native.Nat.{ℕ, zero, suc, _+_, _*_}
-use mathlib.Core.Path.{_≡_, refl, ap, ap₂, subst, sym}
+use Prim.Native.Nat.{ℕ, zero, suc, _*_}
+use mathlib.Core.Path.{_≡_, refl, ap}
 use mathlib.Core.Bool.{Bool, true, false, cond}
 use mathlib.Core.List.{List}
 use lib.IntN.{ℤ}
-use lib.ListN.{length, take, drop}
-use Rattle.arith.specs.Tab.{paste}
-use Rattle.layout.specs.Answers.{Said, Left}
-use Rattle.layout.specs.Sequences.{replyOf}
+use lib.ListN.{take, drop}
+use Rattle.layout.specs.Answers.{Left}
+use Rattle.model.proofs.Agrees.{Agree}
 use Rattle.burst.specs.Bursts.{Progress, isRefused, rowSaid, nextLeft, counted, feed, burstLeft}
 
 module _ {S M : Type 0} (Follows : S → M → Type 0) (row : S → List ℕ → List ℤ → Left S) (row′ : M → List ℕ → List ℤ → Left M) where
-  -- what one row must show
-  abbrev pub Matches : Left S → Left M → Type 0
-  Matches x y = (replyOf x ≡ replyOf y) × Follows (x .state) (y .state)
-
   -- two bursts part way, alike
   pub record Alike (p : Progress S) (q : Progress M) : Type 0 where
     pub said : p .said ≡ q .said
@@ -24,13 +19,15 @@ module _ {S M : Type 0} (Follows : S → M → Type 0) (row : S → List ℕ →
     pub filtered : p .filtered ≡ q .filtered
     pub follows : Follows (p .state) (q .state)
 
-  module _ (kept : (s : S) (m : M) (r : List ℕ) (out : List ℤ) → Follows s m → Matches (row s r out) (row′ m r out)) where
-    next-alike : (l : ℕ) (rows : List ℕ) (p : Progress S) (q : Progress M) → Alike p q → Matches (nextLeft row l p rows) (nextLeft row′ l q rows)
+  module _ (kept : (s : S) (m : M) (r : List ℕ) (out : List ℤ) → Follows s m → Agree Follows (row s r out) (row′ m r out)) where
+    next-alike : (l : ℕ) (rows : List ℕ) (p : Progress S) (q : Progress M) → Alike p q
+        → Agree Follows (nextLeft row l p rows) (nextLeft row′ l q rows)
     next-alike l rows p q a =
         rw (a .out, a .taken, a .filtered)
         (kept (p .state) (q .state) (take l (drop (q .taken * l) rows)) (take l (drop (q .filtered * l) (q .out))) (a .follows))
 
-    counted-alike : (l : ℕ) (p : Progress S) (q : Progress M) (x : Left S) (y : Left M) → Alike p q → Matches x y → Alike (counted l p x) (counted l q y)
+    counted-alike : (l : ℕ) (p : Progress S) (q : Progress M) (x : Left S) (y : Left M) → Alike p q
+        → Agree Follows x y → Alike (counted l p x) (counted l q y)
     counted-alike l p q x y a m =
         let e : x .said ≡ y .said = ap (λ r. r .said) (m .0) in
         let f : x .out ≡ y .out = ap (λ r. r .out) (m .0) in
@@ -56,5 +53,5 @@ module _ {S M : Type 0} (Follows : S → M → Type 0) (row : S → List ℕ →
         (feed-alike l n rows (counted l p (nextLeft row l p rows)) (counted l q (nextLeft row′ l q rows)) b)
 
     -- what they leave
-    pub left-alike : (p : Progress S) (q : Progress M) → Alike p q → Matches (burstLeft p) (burstLeft q)
+    pub left-alike : (p : Progress S) (q : Progress M) → Alike p q → Agree Follows (burstLeft p) (burstLeft q)
     left-alike p q a = (rw (a .said, a .out, a .taken, a .filtered) refl, a .follows)

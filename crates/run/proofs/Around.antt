@@ -1,20 +1,19 @@
--- What stands around a sequence of calls: files, the one-pixel call, refused starts and tables, a full and a closed scan.
+-- What stands around a sequence of calls: files, the one-pixel call, refused starts and tables.
 -- Assumes nothing.
-use Prim.Native.Nat.{ℕ, _+_, _*_, _/_, _^_, _-_, _≤_, _<_}
+use Prim.Native.Nat.{ℕ, _*_, _/_, _^_, _-_, _≤_, _<_}
 use native.Mathlib.Nat.{mul-div-cancel, mul-comm}
 use native.Mathlib.Omega.{arith}
-use mathlib.Core.Path.{_≡_, refl, sym, ap, _∙_, subst}
-use mathlib.Core.Bool.{Bool, true, false, not, cond, _&&_}
+use mathlib.Core.Path.{_≡_, refl, ap, _∙_}
+use mathlib.Core.Bool.{Bool, true, false, _&&_}
 use mathlib.Core.List.{List, [], _∷_}
-use lib.Dec.{T, leb, ltb, eqb}
-use lib.IntN.{ℤ, pos}
+use lib.Dec.{T}
+use lib.IntN.{pos}
 use lib.ListN.{length}
-use borrow.Author.Tests.{le-leb, le-ltb, lt-ltb, eq-eqb}
+use borrow.Author.Tests.{le-leb, lt-ltb, eq-eqb}
 use Rattle.arith.specs.All.{all}
 use Rattle.arith.proofs.Bools.{true-of}
 use Rattle.layout.specs.declared.Table.{Table}
 use Rattle.layout.specs.Contents.{Contents}
-use Rattle.layout.specs.Measure.{delayOf}
 use Rattle.layout.specs.Answers.{Said, refused, accepted, Left, left}
 use Rattle.layout.specs.Sequences.{replies}
 use Rattle.layout.proofs.Questions.{each-way}
@@ -26,14 +25,14 @@ use Rattle.rule.specs.Pixels.{pixelOf}
 use Rattle.rule.proofs.Asked.{width-bounds}
 use Rattle.pixel.specs.Call.{pixelAsks, pixelAnswer}
 use Rattle.arrival.specs.Arrivals.{storesGood}
-use Rattle.scan.specs.declared.Scan.{Scan}
 use Rattle.scan.specs.Calls.{World, world, agrees, fresh, startAsks, startOf, rowAsks, rowOf, closeOf, stepOf}
 use Rattle.burst.specs.Bursts.{withCounts, burstAsks, burstOf}
-use Rattle.run.specs.Rows.{flat, scanned, goodRows}
+use Rattle.model.specs.Rows.{flat, scanned, goodRows}
+use Rattle.model.specs.Machines.{rowCall, closeCall, stepCall, outOf as outOfSingle, opened}
+use Rattle.model.proofs.Rows.{flat-length, flat-bits}
 use Rattle.run.specs.Holds.{Starts}
-use Rattle.run.specs.Sequences.{Call, rowCall, rowsCall, closeCall, stepCall, outOf, engine, Machine, machine, machineAsks, machineRow, answers, started}
+use Rattle.run.specs.Sequences.{filterOf, Call, single, rowsCall, outOf, engine, answers}
 use Rattle.run.specs.Refusals.{Refuses14}
-use Rattle.run.proofs.Rows.{flat-length, flat-bits}
 use Rattle.run.proofs.Sequences.{sequence}
 
 -- ---- files
@@ -45,8 +44,10 @@ file-starts bs c byte e l samples sums wide long = record { table = loaded-accep
 
 pub file-sequence : (bs : List ℕ) (c : Contents) → Bytes bs → loadOf bs ≡ loaded c → (l : ℕ) (samples sums : List ℕ) → widthGood l ≡ true
     → storesGood l (tableFrom (loadOf bs) .count) (length samples) (length sums) ≡ true
-    → (cs : List Call) → replies engine (startOf (tableFrom (loadOf bs)) l samples sums .state) cs ≡ replies answers (started (tableFrom (loadOf bs)) l) cs
-file-sequence bs c byte e l samples sums wide long = sequence (tableFrom (loadOf bs)) l samples sums (file-starts bs c byte e l samples sums wide long)
+    → (cs : List Call)
+    → replies engine (startOf (tableFrom (loadOf bs)) l samples sums .state) cs ≡ replies (answers (filterOf (tableFrom (loadOf bs)) l)) opened cs
+file-sequence bs c byte e l samples sums wide long =
+    sequence (tableFrom (loadOf bs)) l samples sums (file-starts bs c byte e l samples sums wide long)
 
 -- ---- the one-pixel call
 
@@ -81,11 +82,11 @@ refuses w c s k n e =
 
 -- every call on it is refused with 14, and changes nothing
 pub disagreeing : (w : World) → agrees (w .scan) ≡ false → (c : Call) → Refuses14 w c
-unfolding engine outOf rowOf rowAsks burstOf burstAsks closeOf stepOf
-disagreeing w e (rowCall row out) = refuses w (rowCall row out) (refused 14 0) refl refl (rw e refl)
+unfolding engine outOf outOfSingle rowOf rowAsks burstOf burstAsks closeOf stepOf
+disagreeing w e (single (rowCall row out)) = refuses w (single (rowCall row out)) (refused 14 0) refl refl (rw e refl)
+disagreeing w e (single closeCall) = refuses w (single closeCall) (refused 14 0) refl refl (rw e refl)
+disagreeing w e (single (stepCall out)) = refuses w (single (stepCall out)) (refused 14 0) refl refl (rw e refl)
 disagreeing w e (rowsCall rows out) = refuses w (rowsCall rows out) (withCounts (refused 14 0) 0 0) refl refl (rw e refl)
-disagreeing w e closeCall = refuses w closeCall (refused 14 0) refl refl (rw e refl)
-disagreeing w e (stepCall out) = refuses w (stepCall out) (refused 14 0) refl refl (rw e refl)
 
 no-width : (t : Table) → agrees (fresh t 0) ≡ false
 unfolding agrees widthGood
@@ -113,15 +114,3 @@ refused-load bs n p e l samples sums = rw (refused-table bs n p e .0) refl
 pub refused-load-scan : (bs : List ℕ) (n p : ℕ) → loadOf bs ≡ noTable n p → (w : World) → w .scan .table ≡ tableFrom (loadOf bs) → (c : Call) → Refuses14 w c
 unfolding agrees
 refused-load-scan bs n p e w f = disagreeing w (rw (f, refused-table bs n p e .0) refl)
-
--- ---- a closed scan, and a full one
-
--- Q1: a row to a closed machine is refused with 15
-pub closed-refuses : (m : Machine) → m .closed ≡ true → (row : List ℕ) (out : List ℤ) → machineRow m row out ≡ left (refused 15 0) m out
-unfolding machineRow machineAsks
-closed-refuses m e row out = rw e refl
-
--- Q8: where 65,535 rows are in, the next is refused with 16
-pub full-refuses : (m : Machine) → m .closed ≡ false → length (m .rows) ≡ 65535 → (row : List ℕ) (out : List ℤ) → machineRow m row out ≡ left (refused 16 0) m out
-unfolding machineRow machineAsks
-full-refuses m e f row out = rw (e, le-ltb (length (m .rows)) 65535 (omega arith)) refl

@@ -1,22 +1,17 @@
 -- An arrival of a run: what it finds, that it is accepted, and what it leaves.
 -- Assumes nothing.
-use Prim.Native.Nat.{ℕ, zero, suc, _+_, _-_, _*_, _/_, _%_, _^_, _≤_, _<_}
+use Prim.Native.Nat.{ℕ, suc, _+_, _-_, _*_, _/_, _^_, _≤_, _<_}
 use native.Mathlib.Nat.{zero-div}
 use native.Mathlib.Omega.{arith}
-use mathlib.Core.Path.{_≡_, refl, sym, ap, ap₂, _∙_, subst}
+use mathlib.Core.Path.{_≡_, sym, ap, _∙_, subst}
 use mathlib.Core.Bool.{Bool, true, false, not, cond}
-use mathlib.Core.List.{List, _++_}
 use lib.Dec.{T, ltb, leb, ltb→lt, nltb→le, le→leb}
 use lib.IntN.{ℤ, pos, negsuc, subℕ, _+ℤ_, _-ℤ_, _*ℤ_}
-use lib.ListN.{length, getD, drop}
-use lib.Seq.{getD-append-add, getD-drop}
-use borrow.Author.Tests.{lt-ltb, le-ltb}
+use lib.ListN.{getD, drop}
 use mir.Facts.{yes-and}
-use Rattle.arith.specs.Sum.{sum, sumℤ}
 use Rattle.arith.specs.All.{all}
 use Rattle.arith.specs.Diff.{Diff}
 use Rattle.arith.specs.Floor.{floorDiv}
-use Rattle.arith.specs.Tab.{tab, grid}
 use Rattle.arith.proofs.Alls.{all-of}
 use Rattle.arith.proofs.Ints.{diff-add, diff-minus, diff-pos, diff-posPart}
 use Rattle.arith.proofs.Sums.{sum-cong, sum-zero, term-le-sum}
@@ -26,9 +21,9 @@ use Rattle.layout.specs.declared.Table.{Table}
 use Rattle.layout.specs.Contents.{rect}
 use Rattle.layout.specs.Measure.{rowsOf, colsOf, delayOf}
 use Rattle.limits.specs.Limits.{acceptable}
-use Rattle.limits.proofs.Bounds.{Edges, RectBounds}
+use Rattle.limits.proofs.Bounds.{RectBounds}
 use Rattle.limits.proofs.Granted.{Granted, granted}
-use Rattle.rule.specs.Sums.{Image, HasBits, covered, columnSum, windowSum, cutSum, scaledSum}
+use Rattle.rule.specs.Sums.{Image, covered, columnSum, windowSum, cutSum, scaledSum}
 use Rattle.rule.specs.Pixels.{cutValue, pixelOf}
 use Rattle.rule.proofs.Fitting.{column-most}
 use Rattle.arith.proofs.Bools.{true-of}
@@ -37,16 +32,10 @@ use Rattle.arrival.specs.Arrivals.{Arrival, sumsAfter, edgeRow, cutAt, leaving,
 use Rattle.rule.proofs.Depends.{lead-most}
 use Rattle.arrival.proofs.Delays.{delay-most}
 use Rattle.rule.proofs.Slides.{column-slide}
-use Rattle.run.proofs.Columns.{leaving-row, entering-row, due-row, next-row}
 use Rattle.ring.specs.Ring.{Kept}
 use Rattle.ring.proofs.Kept.{row-is}
-
--- a scan of rows of l samples of b bits
-pub record InFrame (l b : ℕ) (x : Image) : Type 0 where
-  pub above : (i : ℕ) (j : ℤ) → x (negsuc i) j ≡ 0
-  pub left : (i : ℤ) (j : ℕ) → x i (negsuc j) ≡ 0
-  pub right : (i : ℤ) (j : ℕ) → l ≤ j → x i (pos j) ≡ 0
-  pub bits : HasBits b x
+use Rattle.model.proofs.Rows.{InFrame}
+use Rattle.model.proofs.Edges.{leaving-row, entering-row, due-row, next-row}
 
 -- arrival a of a run over x: the row is x's, and the stores hold what the arrivals before left
 pub record Finds (x : Image) (v : Arrival) : Type 0 where

@@ -13,8 +13,10 @@ use Rattle.layout.specs.declared.Table.{Table}
 use Rattle.layout.specs.Measure.{delayOf}
 use Rattle.rule.specs.Pixels.{pixelOf}
 use Rattle.rule.proofs.Depends.{pixel-depends}
-use Rattle.run.specs.Rows.{scanned, goodRows}
-use Rattle.run.proofs.Rows.{more-agrees, more-above}
+use Rattle.model.specs.Rows.{scanned, goodRows}
+use Rattle.model.specs.Wholes.{Settled}
+use Rattle.model.proofs.Rows.{more-agrees, more-above}
+use Rattle.run.specs.Sequences.{filterOf}
 
 pub pixel-later : (l b : ℕ) (rows later : List (List ℕ)) → T (goodRows l b rows) → (t : Table) (r : ℕ) (c : ℤ) → r + delayOf t < length rows
     → pixelOf t (scanned l rows) (pos r) c ≡ pixelOf t (scanned l (rows ++ later)) (pos r) c
@@ -24,3 +26,7 @@ pixel-later l b rows later h t r c p = pixel-depends t (scanned l rows) (scanned
     agree (negsuc i) j q = more-above l b rows later h i j
     agree (pos e) j q =
         more-agrees l b rows later h e j (let m = le-diff (diff-pos e) (diff-add (diff-pos r) (diff-pos (delayOf t))) q in omega arith)
+
+-- so the filter is settled
+pub settled : (t : Table) (l : ℕ) → Settled (filterOf t l)
+settled t l = record { later = λ rows more h r c p. pixel-later l (t .b) rows more h t r (pos c) p }

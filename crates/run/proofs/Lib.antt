@@ -1,13 +1,10 @@
-pub mod Columns
 pub mod Arrives
 pub mod Stores
-pub mod Rows
 pub mod Starts
 pub mod Alike
-pub mod Sequences
 pub mod Later
+pub mod Sequences
 pub mod Wholes
-pub mod Numbers
 pub mod Packs
 pub mod Around
 pub mod Words

@@ -1,6 +1,6 @@
 -- B-pixels: the rows that a burst packs are the pixel rule's.
 -- Assumes nothing.
-use Prim.Native.Nat.{ℕ, zero, suc, _+_, _-_, _*_, _/_, _%_, _^_, _≤_, _<_}
+use Prim.Native.Nat.{ℕ, zero, suc, _+_, _-_, _*_, _/_, _%_, _≤_, _<_}
 use native.Mathlib.Nat.{div-mul-le-self, le-trans, mul-le-mul-right, add-zero}
 use native.Mathlib.Omega.{arith}
 use mathlib.Core.Path.{_≡_, refl, sym, ap, ap₂, _∙_, subst}
@@ -9,44 +9,41 @@ use mathlib.Core.List.{List, [], _∷_, _++_, append-assoc, append-nil}
 use lib.Dec.{T, leb, ltb, eqb, ltb→lt, nltb→le}
 use lib.IntN.{ℤ, pos}
 use lib.ListN.{length, take, drop, length-append, length-drop, drop-of-length-le}
-use borrow.Author.Tests.{leb-true, not-true}
+use borrow.Author.Tests.{leb-true}
 use Rattle.arith.specs.Tab.{tab, grid, paste}
 use Rattle.arith.proofs.Parts.{part-long, paste-own}
-use Rattle.arith.proofs.Passes.{pass-length, length-grid, grid-none}
+use Rattle.arith.proofs.Passes.{length-grid, grid-none}
 use Rattle.arith.proofs.Grids.{grid-cong, grid-paste}
-use Rattle.arith.proofs.Tabs.{length-tab}
 use Rattle.layout.specs.declared.Table.{Table}
 use Rattle.layout.specs.Answers.{Said, refused, accepted, waiting, asks, Left, left}
-use Rattle.layout.specs.Measure.{delayOf}
 use Rattle.layout.specs.Sequences.{replyOf, ended}
 use Rattle.layout.proofs.Questions.{AllYes, each-way}
-use Rattle.rule.specs.Pixels.{pixelOf}
 use Rattle.scan.specs.Calls.{startOf}
-use Rattle.burst.specs.Bursts.{Progress, progress, isRefused, rowSaid, nextLeft, counted, feed, burstLeft, noRows, allRows, burstOf}
-use Rattle.run.specs.Rows.{scanned, goodRows, rowsOfSlice}
+use Rattle.burst.specs.Bursts.{Progress, progress, isRefused, nextLeft, counted, feed, burstLeft, noRows, burstOf}
+use Rattle.model.specs.Rows.{goodRows}
+use Rattle.model.specs.Machines.{Filter, Machine, machine, opened, dueLeft, machineAsks, withRow, machineRow}
+use Rattle.model.specs.Wholes.{Settled}
+use Rattle.model.proofs.Rows.{good-append, good-one}
 use Rattle.run.specs.Holds.{Starts}
-use Rattle.run.specs.Packs.{Packed}
-use Rattle.run.specs.Sequences.{Call, rowsCall, engine, Machine, machine, dueLeft, machineAsks, withRow, machineRow, machineRows, answers, started}
-use Rattle.run.proofs.Rows.{good-append, good-one}
-use Rattle.run.proofs.Later.{pixel-later}
-use Rattle.run.proofs.Sequences.{Fair, Follows, sequence-stores, kept}
+use Rattle.run.specs.Packs.{rowsOfSlice, Packed}
+use Rattle.run.specs.Sequences.{filterOf, Call, rowsCall, engine, machineRows, answers}
+use Rattle.run.proofs.Later.{settled}
+use Rattle.run.proofs.Sequences.{sequence-stores, kept}
 
 -- no row
 no-lines : {A : Type 0} (l : ℕ) (f : ℕ → ℕ → A) (xs : List A) → xs ≡ grid 0 l f ++ drop (0 * l) xs
 no-lines l f xs = let z : 0 ≡ 0 * l = omega arith in grid-none l f xs ∙ ap (λ i. grid 0 l f ++ drop i xs) z
 
-module _ (m : Machine) (rows : List ℕ) (out : List ℤ) (n : ℕ) (fits : n * m .width ≤ length out) (good : T (goodRows (m .width) (m .table .b) (m .rows))) where
-  abbrev t : Table
-  t = m .table
-
+module _ (f : Filter) (settles : Settled f) (m : Machine) (rows : List ℕ) (out : List ℤ) (n : ℕ) (fits : n * f .width ≤ length out)
+    (good : T (goodRows (f .width) (f .bits) (m .rows))) where
   abbrev l : ℕ
-  l = m .width
+  l = f .width
 
   abbrev h : ℕ
   h = length (m .rows)
 
   abbrev d : ℕ
-  d = delayOf t
+  d = f .delay
 
   -- the rows, the rows out and the output after k rows
   abbrev R : ℕ → List (List ℕ)
@@ -56,18 +53,21 @@ module _ (m : Machine) (rows : List ℕ) (out : List ℤ) (n : ℕ) (fits : n * 
   F k = h + k - d - (h - d)
 
   abbrev pixel : (k i c : ℕ) → ℤ
-  pixel k i c = pixelOf t (scanned l (R k)) (pos (h - d + i)) (pos c)
+  pixel k i c = f .pixel (R k) (h - d + i) c
 
   abbrev O : ℕ → List ℤ
   O k = grid (F k) l (pixel k) ++ drop (F k * l) out
 
   abbrev M : ℕ → Machine
-  M k = machine t l (R k) (m .steps) (m .closed)
+  M k = machine (R k) (m .steps) (m .closed)
 
   slice-length : (k : ℕ) → length (rowsOfSlice l k rows) ≡ k
   unfolding rowsOfSlice
   slice-length zero = refl
-  slice-length (suc k) = length-append (rowsOfSlice l k rows) _ ∙ (let e = slice-length k in let z : length (rowsOfSlice l k rows) + 1 ≡ suc k = omega arith in z)
+  slice-length (suc k) =
+      let e = slice-length k in
+      let z : length (rowsOfSlice l k rows) + 1 ≡ suc k = omega arith in
+      length-append (rowsOfSlice l k rows) _ ∙ z
 
   rows-length : (k : ℕ) → length (R k) ≡ h + k
   rows-length k = length-append (m .rows) (rowsOfSlice l k rows) ∙ ap (λ i. h + i) (slice-length k)
@@ -80,23 +80,23 @@ module _ (m : Machine) (rows : List ℕ) (out : List ℤ) (n : ℕ) (fits : n * 
   unfolding rowsOfSlice
   rows-more k = append-assoc (m .rows) (rowsOfSlice l k rows) (row k ∷ [])
 
-  pixels-more : (k : ℕ) → T (goodRows l (t .b) (R k)) → grid (F k) l (pixel k) ≡ grid (F k) l (pixel (suc k))
+  pixels-more : (k : ℕ) → T (goodRows l (f .bits) (R k)) → grid (F k) l (pixel k) ≡ grid (F k) l (pixel (suc k))
   pixels-more k g =
       grid-cong (F k) l (λ i c p q.
-      pixel-later l (t .b) (R k) (row k ∷ []) g t (h - d + i) (pos c) (let e = rows-length k in omega arith)
-      ∙ ap (λ rs. pixelOf t (scanned l rs) (pos (h - d + i)) (pos c)) (rows-more k))
+      settles .later (R k) (row k ∷ []) g (h - d + i) c (let e = rows-length k in omega arith) ∙ ap (λ rs. f .pixel rs (h - d + i) c) (rows-more k))
 
   -- a burst part way, k rows taken
   record Along (p : Progress Machine) : Type 0 where
     k : ℕ
     fewer : k ≤ n
-    good-so-far : T (goodRows l (t .b) (R k))
+    good-so-far : T (goodRows l (f .bits) (R k))
     is : p ≡ progress (p .said) (M k) (O k) k (F k)
 
-  same-progress : {s : Said} {x y : Machine} {o o′ : List ℤ} {a a′ b b′ : ℕ} → x ≡ y → o ≡ o′ → a ≡ a′ → b ≡ b′ → progress s x o a b ≡ progress s y o′ a′ b′
+  same-progress : {s : Said} {x y : Machine} {o o′ : List ℤ} {a a′ b b′ : ℕ} → x ≡ y → o ≡ o′ → a ≡ a′ → b ≡ b′
+      → progress s x o a b ≡ progress s y o′ a′ b′
   same-progress e f g h = rw (e, f, g, h) refl
 
-  module _ (k : ℕ) (less : k < n) (g : T (goodRows l (t .b) (R k))) (s : Said) where
+  module _ (k : ℕ) (less : k < n) (g : T (goodRows l (f .bits) (R k))) (s : Said) where
     abbrev p : Progress Machine
     p = progress s (M k) (O k) k (F k)
 
@@ -112,14 +112,14 @@ module _ (m : Machine) (rows : List ℕ) (out : List ℤ) (n : ℕ) (fits : n * 
         let b = length-grid (F k) l (pixel k) in
         let c = length-drop (F k * l) out in
         let e = mul-le-mul-right l few in
-        let f = mul-le-mul-right l less in
+        let u = mul-le-mul-right l less in
         omega arith
 
     room : F k * l + l ≤ length (O k)
     room =
         let a = few in
         let q : F k + 1 ≤ n = omega arith in
-        let f = mul-le-mul-right l q in
+        let u = mul-le-mul-right l q in
         let e = out-long in
         omega arith
 
@@ -137,16 +137,18 @@ module _ (m : Machine) (rows : List ℕ) (out : List ℤ) (n : ℕ) (fits : n * 
         }
 
     -- a row that is taken
-    module _ (y : AllYes (machineAsks (M k) (row k) (length lent))) where
-      more : T (goodRows l (t .b) (R (suc k)))
+    module _ (y : AllYes (machineAsks f (M k) (row k) (length lent))) where
+      more : T (goodRows l (f .bits) (R (suc k)))
       unfolding machineAsks
-      more = subst (λ rs. T (goodRows l (t .b) rs)) (rows-more k) (good-append l (t .b) (R k) (row k ∷ []) g (good-one l (t .b) (row k) (y .1 .1 .0) (y .1 .1 .1 .1 .0)))
+      more =
+          subst (λ rs. T (goodRows l (f .bits) rs)) (rows-more k)
+          (good-append l (f .bits) (R k) (row k ∷ []) g (good-one l (f .bits) (row k) (y .1 .1 .0) (y .1 .1 .1 .1 .0)))
 
       next : Machine
       next = withRow (M k) (row k)
 
       next-is : withRow (M k) (row k) ≡ M (suc k)
-      next-is = ap (λ rs. machine t l rs (m .steps) (m .closed)) (rows-more k)
+      next-is = ap (λ rs. machine rs (m .steps) (m .closed)) (rows-more k)
 
       one : k + 1 ≡ suc k
       one = omega arith
@@ -167,16 +169,16 @@ module _ (m : Machine) (rows : List ℕ) (out : List ℤ) (n : ℕ) (fits : n * 
       -- row h + k - D is due
       comes : d ≤ h + k
           → Along (counted l p (left (accepted (pos (h + k - d) ∷ [])) (withRow (M k) (row k))
-          (tab l (λ c. pixelOf t (scanned l (R k ++ (row k ∷ []))) (pos (h + k - d)) (pos c)) ++ drop l lent)))
+          (tab l (f .pixel (R k ++ (row k ∷ [])) (h + k - d)) ++ drop l lent)))
       comes q =
           let a : F k + 1 ≡ F (suc k) = omega arith in
           let b : suc (F k) ≡ F (suc k) = omega arith in
           let e : h + k - d ≡ h - d + F k = omega arith in
-          let f : drop l lent ≡ [] = drop-of-length-le lent {i = l} (let z = part-long (F k * l) l (O k) room in omega arith) in
-          let line : tab l (λ c. pixelOf t (scanned l (R k ++ (row k ∷ []))) (pos (h + k - d)) (pos c)) ++ drop l lent ≡ tab l (pixel (suc k) (F k)) =
-          ap (λ xs. tab l (λ c. pixelOf t (scanned l (R k ++ (row k ∷ []))) (pos (h + k - d)) (pos c)) ++ xs) f
-          ∙ append-nil (tab l (λ c. pixelOf t (scanned l (R k ++ (row k ∷ []))) (pos (h + k - d)) (pos c)))
-          ∙ ap₂ (λ rs i. tab l (λ c. pixelOf t (scanned l rs) (pos i) (pos c))) (rows-more k) e in
+          let nothing : drop l lent ≡ [] = drop-of-length-le lent {i = l} (let z = part-long (F k * l) l (O k) room in omega arith) in
+          let line : tab l (f .pixel (R k ++ (row k ∷ [])) (h + k - d)) ++ drop l lent ≡ tab l (pixel (suc k) (F k)) =
+          ap (λ xs. tab l (f .pixel (R k ++ (row k ∷ [])) (h + k - d)) ++ xs) nothing
+          ∙ append-nil (tab l (f .pixel (R k ++ (row k ∷ [])) (h + k - d)))
+          ∙ ap₂ (λ rs i. tab l (f .pixel rs i)) (rows-more k) e in
           record {
             k = suc k;
             fewer = less;
@@ -186,22 +188,22 @@ module _ (m : Machine) (rows : List ℕ) (out : List ℤ) (n : ℕ) (fits : n * 
                 ∙ ap (λ i. grid i l (pixel (suc k)) ++ drop (i * l) out) b) one a;
           }
 
-      due : Along (counted l p (dueLeft t l (scanned l (R k ++ (row k ∷ []))) (h + k) lent (withRow (M k) (row k))))
+      due : Along (counted l p (dueLeft f (h + k) (R k ++ (row k ∷ [])) lent (withRow (M k) (row k))))
       unfolding dueLeft
       due = go (ltb (h + k) d) (ltb→lt (h + k) d) (nltb→le (h + k) d)
         where
           go : (b : Bool) → (T b → h + k < d) → (T (not b) → d ≤ h + k)
               → Along (counted l p (cond b (left waiting (withRow (M k) (row k)) lent)
-              (left (accepted (pos (h + k - d) ∷ [])) (withRow (M k) (row k)) (tab l (λ c. pixelOf t (scanned l (R k ++ (row k ∷ []))) (pos (h + k - d)) (pos c)) ++ drop l lent))))
+              (left (accepted (pos (h + k - d) ∷ [])) (withRow (M k) (row k)) (tab l (f .pixel (R k ++ (row k ∷ [])) (h + k - d)) ++ drop l lent))))
           go true w c = waits (w tt)
           go false w c = comes (c tt)
 
-      taken : Along (counted l p (dueLeft t l (scanned l (R k ++ (row k ∷ []))) (length (R k)) lent (withRow (M k) (row k))))
-      taken = subst (λ i. Along (counted l p (dueLeft t l (scanned l (R k ++ (row k ∷ []))) i lent (withRow (M k) (row k))))) (sym (rows-length k)) due
+      taken : Along (counted l p (dueLeft f (length (R k)) (R k ++ (row k ∷ [])) lent (withRow (M k) (row k))))
+      taken = subst (λ i. Along (counted l p (dueLeft f i (R k ++ (row k ∷ [])) lent (withRow (M k) (row k))))) (sym (rows-length k)) due
 
-    step : Along (counted l p (nextLeft machineRow l p rows))
+    step : Along (counted l p (nextLeft (machineRow f) l p rows))
     unfolding machineRow
-    step = each-way (λ x. Along (counted l p x)) (machineAsks (M k) (row k) (length lent)) (λ n p. left (refused n p) (M k) lent) _ refusal taken
+    step = each-way (λ x. Along (counted l p x)) (machineAsks f (M k) (row k) (length lent)) (λ n p. left (refused n p) (M k) lent) _ refusal taken
 
   next-taken : (p : Progress Machine) (x : Left Machine) → counted l p x .taken ≤ p .taken + 1
   next-taken p x = go (isRefused (x .said))
@@ -210,19 +212,19 @@ module _ (m : Machine) (rows : List ℕ) (out : List ℤ) (n : ℕ) (fits : n * 
       go true = omega arith
       go false = omega arith
 
-  along-next : (p : Progress Machine) → Along p → p .taken < n → Along (counted l p (nextLeft machineRow l p rows))
+  along-next : (p : Progress Machine) → Along p → p .taken < n → Along (counted l p (nextLeft (machineRow f) l p rows))
   along-next p a less =
       let q = progress (p .said) (M (a .k)) (O (a .k)) (a .k) (F (a .k)) in
       let e : p .taken ≡ a .k = ap (λ x. x .taken) (a .is) in
-      subst (λ p. Along (counted l p (nextLeft machineRow l p rows))) (sym (a .is)) (step (a .k) (omega arith) (a .good-so-far) (p .said))
+      subst (λ p. Along (counted l p (nextLeft (machineRow f) l p rows))) (sym (a .is)) (step (a .k) (omega arith) (a .good-so-far) (p .said))
 
-  along : (j : ℕ) (p : Progress Machine) → Along p → p .taken + j ≤ n → Along (feed machineRow l j p rows)
+  along : (j : ℕ) (p : Progress Machine) → Along p → p .taken + j ≤ n → Along (feed (machineRow f) l j p rows)
   unfolding feed
   along zero p a r = a
   along (suc j) p a r =
       let b = along-next p a (omega arith) in
-      let f = next-taken p (nextLeft machineRow l p rows) in
-      go (isRefused (nextLeft machineRow l p rows .said)) b (along j (counted l p (nextLeft machineRow l p rows)) b (omega arith))
+      let u = next-taken p (nextLeft (machineRow f) l p rows) in
+      go (isRefused (nextLeft (machineRow f) l p rows .said)) b (along j (counted l p (nextLeft (machineRow f) l p rows)) b (omega arith))
     where
       go : (y : Bool) {q r : Progress Machine} → Along q → Along r → Along (cond y q r)
       go true q r = q
@@ -235,12 +237,12 @@ module _ (m : Machine) (rows : List ℕ) (out : List ℤ) (n : ℕ) (fits : n * 
       record {
         k = 0;
         fewer = omega arith;
-        good-so-far = subst (λ rs. T (goodRows l (t .b) rs)) (sym (append-nil (m .rows))) good;
-        is = same-progress (ap (λ rs. machine t l rs (m .steps) (m .closed)) (sym (append-nil (m .rows))))
+        good-so-far = subst (λ rs. T (goodRows l (f .bits) rs)) (sym (append-nil (m .rows))) good;
+        is = same-progress (ap (λ rs. machine rs (m .steps) (m .closed)) (sym (append-nil (m .rows))))
             (no-lines l (pixel 0) out ∙ ap (λ i. grid i l (pixel 0) ++ drop (i * l) out) (sym z)) refl (sym z);
       }
 
-  packed : (p : Progress Machine) → Along p → Packed m rows out (replyOf (burstLeft p))
+  packed : (p : Progress Machine) → Along p → Packed f m rows out (replyOf (burstLeft p))
   packed p a =
       let e = a .is in
       record {
@@ -251,26 +253,30 @@ module _ (m : Machine) (rows : List ℕ) (out : List ℤ) (n : ℕ) (fits : n * 
         pixels = ap (λ q. q .out) e;
       }
 
-pub machine-packs : (m : Machine) → T (goodRows (m .width) (m .table .b) (m .rows)) → (rows : List ℕ) (out : List ℤ) → Packed m rows out (replyOf (machineRows m rows out))
+pub machine-packs : (f : Filter) → Settled f → (m : Machine) → T (goodRows (f .width) (f .bits) (m .rows)) → (rows : List ℕ) (out : List ℤ)
+    → Packed f m rows out (replyOf (machineRows f m rows out))
 unfolding machineRows
-machine-packs m good rows out =
-    each-way (λ x. Packed m rows out (replyOf x))
-    (asks 15 (not (m .closed)) ∷ asks 21 (eqb (length rows % m .width) 0) ∷ asks 13 (leb (length rows) (length out)) ∷ []) (noRows m out) _
-    (λ n p. refusal n p)
-    (λ y. let fits = le-trans (div-mul-le-self (length rows) (m .width)) (leb-true (length rows) (length out) (y .1 .1 .0)) in
-    packed m rows out (length rows / m .width) fits good _
-    (along m rows out (length rows / m .width) fits good (length rows / m .width) (progress (accepted []) m out 0 0) (none m rows out (length rows / m .width) fits good) (omega arith)))
+machine-packs f s m good rows out =
+    let n = length rows / f .width in
+    each-way (λ x. Packed f m rows out (replyOf x))
+    (asks 15 (not (m .closed)) ∷ asks 21 (eqb (length rows % f .width) 0) ∷ asks 13 (leb (length rows) (length out)) ∷ []) (noRows m out) _
+    (λ i p. refusal i p)
+    (λ y. let fits = le-trans (div-mul-le-self (length rows) (f .width)) (leb-true (length rows) (length out) (y .1 .1 .0)) in
+    packed f s m rows out n fits good _
+    (along f s m rows out n fits good n (progress (accepted []) m out 0 0) (none f s m rows out n fits good) (omega arith)))
   where
-    refusal : (n p : ℕ) → Packed m rows out (replyOf (noRows m out n p))
-    refusal n p =
-        let z : length (m .rows) + 0 - delayOf (m .table) - (length (m .rows) - delayOf (m .table)) ≡ 0 = omega arith in
-        record { taken = 0; filtered = 0; says = refl; count = sym z; pixels = no-lines (m .width) _ out }
+    refusal : (i p : ℕ) → Packed f m rows out (replyOf (noRows m out i p))
+    refusal i p =
+        let z : length (m .rows) + 0 - f .delay - (length (m .rows) - f .delay) ≡ 0 = omega arith in
+        record { taken = 0; filtered = 0; says = refl; count = sym z; pixels = no-lines (f .width) _ out }
 
 -- B-pixels. After every list of calls, a burst of any rows with any output: what it says and leaves is packed rows of the pixel rule.
 pub burst-pixels : (t : Table) (l : ℕ) (samples sums : List ℕ) → Starts t l samples sums → (cs : List Call) (rows : List ℕ) (out : List ℤ)
-    → Packed (ended answers (started t l) cs) rows out (replyOf (burstOf (ended engine (startOf t l samples sums .state) cs) rows out))
+    → Packed (filterOf t l) (ended (answers (filterOf t l)) opened cs) rows out
+    (replyOf (burstOf (ended engine (startOf t l samples sums .state) cs) rows out))
 unfolding engine answers
 burst-pixels t l samples sums s cs rows out =
-    let f = sequence-stores t l samples sums s cs in
-    let m = ended answers (started t l) cs in
-    rw (kept (ended engine (startOf t l samples sums .state) cs) m (rowsCall rows out) f .0) (machine-packs m (f .fair .good) rows out)
+    let r = sequence-stores t l samples sums s cs in
+    let m = ended (answers (filterOf t l)) opened cs in
+    rw (kept t l (ended engine (startOf t l samples sums .state) cs) m (rowsCall rows out) r .0)
+    (machine-packs (filterOf t l) (settled t l) m (r .fair .good) rows out)

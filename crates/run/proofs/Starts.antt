@@ -1,6 +1,6 @@
 -- The stores of a started scan, and of two scans that agree on the arrivals so far.
 -- Assumes nothing.
-use Prim.Native.Nat.{ℕ, suc, _+_, _*_, _^_, _≤_, _<_}
+use Prim.Native.Nat.{ℕ, suc, _+_, _*_, _^_, _<_}
 use native.Mathlib.Nat.{le-trans, le-of-eq, mul-le-mul-right, zero-div}
 use native.Mathlib.Omega.{arith}
 use mathlib.Core.Path.{_≡_, sym, _∙_}
@@ -22,8 +22,8 @@ use Rattle.arrival.specs.Arrivals.{storesGood}
 use Rattle.arrival.proofs.Asked.{stores-bounds}
 use Rattle.ring.specs.Ring.{Kept}
 use Rattle.run.specs.Holds.{Stores}
-use Rattle.run.proofs.Arrives.{InFrame}
 use Rattle.ring.proofs.Kept.{kept-none}
+use Rattle.model.proofs.Rows.{InFrame}
 
 -- no arrival yet, and every column sum 0
 pub stores-none :

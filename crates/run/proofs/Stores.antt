@@ -1,32 +1,30 @@
 -- The stores of a run, from one arrival to the next.
 -- Assumes nothing.
-use Prim.Native.Nat.{ℕ, zero, suc, _+_, _-_, _*_, _/_, _%_, _^_, _≤_, _<_}
-use native.Mathlib.Nat.{mod-lt, mul-le-mul-right, le-trans, le-of-eq}
+use Prim.Native.Nat.{ℕ, _+_, _-_, _*_, _%_, _≤_, _<_}
+use native.Mathlib.Nat.{mod-lt, mul-le-mul-right}
 use native.Mathlib.Omega.{arith}
-use mathlib.Core.Path.{_≡_, refl, sym, ap, _∙_, subst}
+use mathlib.Core.Path.{_≡_, refl, ap, _∙_}
 use mathlib.Core.Bool.{Bool, true, false, not, cond}
 use mathlib.Core.List.{List, _++_}
-use lib.Dec.{ltb}
-use lib.IntN.{ℤ, pos, subℕ}
+use lib.Dec.{T, ltb, nltb→le}
+use lib.IntN.{ℤ, pos}
 use lib.ListN.{length, getD, take, drop, length-append, length-drop}
-use lib.Seq.{length-take-le, take-at}
+use lib.Seq.{length-take-le}
 use Rattle.arith.specs.All.{all}
 use Rattle.arith.specs.Tab.{tab, grid, paste}
-use Rattle.arith.proofs.Passes.{length-grid, pass-length}
-use Rattle.arith.proofs.Tabs.{length-tab, tab-cong}
+use Rattle.arith.proofs.Passes.{length-grid}
+use Rattle.arith.proofs.Tabs.{tab-cong}
 use Rattle.arith.proofs.Ints.{sub-high}
 use Rattle.layout.specs.declared.Table.{Table}
-use Rattle.layout.specs.Contents.{rect}
 use Rattle.layout.specs.Measure.{delayOf}
 use Rattle.limits.specs.Limits.{acceptable}
-use Rattle.rule.specs.Sums.{Image, columnSum}
+use Rattle.rule.specs.Sums.{Image}
 use Rattle.rule.specs.Pixels.{pixelOf}
-use borrow.Author.Tests.{lt-ltb, le-ltb}
 use Rattle.arrival.specs.Arrivals.{Arrival, stored, newSum, sumGood, pixelAt, samplesAfter, sumsAfter, outputAfter}
-use Rattle.ring.specs.Ring.{Kept}
-use Rattle.run.specs.Holds.{Stores}
 use Rattle.ring.proofs.Kept.{kept-next}
-use Rattle.run.proofs.Arrives.{InFrame, Finds, pixel-is, sums-good, sums-next}
+use Rattle.model.proofs.Rows.{InFrame}
+use Rattle.run.specs.Holds.{Stores}
+use Rattle.run.proofs.Arrives.{Finds, pixel-is, sums-good, sums-next}
 
 module _ (t : Table) (l : ℕ) (x : Image) (a : ℕ) (row samples sums : List ℕ) where
   -- what arrives
@@ -77,9 +75,14 @@ module _ (t : Table) (l : ℕ) (x : Image) (a : ℕ) (row samples sums : List �
           carried = λ k c lk lc. sums-next x v finds k c lk lc;
         }
 
-    -- the output when a row is due
-    pub output-due : delayOf t ≤ a → (out : List ℤ) → outputAfter v out ≡ tab l (λ c. pixelOf t x (pos (a - delayOf t)) (pos c)) ++ drop l out
+    -- the output: as it was lent where no row is due yet, else that row by the pixel rule
+    pub output-is : (out : List ℤ)
+        → outputAfter v out ≡ cond (ltb a (delayOf t)) out (tab l (λ c. pixelOf t x (pos (a - delayOf t)) (pos c)) ++ drop l out)
     unfolding outputAfter
-    output-due h out =
-        rw (le-ltb a (delayOf t) h)
-        (ap (λ ys. ys ++ drop l out) (tab-cong l (λ c i. pixel-is x v finds c ∙ ap (λ r. pixelOf t x r (pos c)) (sub-high a (delayOf t) h))))
+    output-is out = go (ltb a (delayOf t)) (nltb→le a (delayOf t))
+      where
+        go : (b : Bool) → (T (not b) → delayOf t ≤ a)
+            → cond b out (tab l (pixelAt v) ++ drop l out) ≡ cond b out (tab l (λ c. pixelOf t x (pos (a - delayOf t)) (pos c)) ++ drop l out)
+        go true h = refl
+        go false h =
+            ap (λ ys. ys ++ drop l out) (tab-cong l (λ c i. pixel-is x v finds c ∙ ap (λ r. pixelOf t x r (pos c)) (sub-high a (delayOf t) (h tt))))

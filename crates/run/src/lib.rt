@@ -1,2 +1,2 @@
-// The sequence theorem: a scan run from its start to its end gives the pixel rule, row by row. There is no code here: the
-// definitions of a run stand in specs/, over those of the calls in `scan`, and the theorems in proofs/.
+// The sequence theorems of the filter: its engine, run from its start to its end, answers as the reference model (crate `model`) with the pixel
+// rule does, row by row. There is no code here: the engine's calls in a row and what its stores hold stand in specs/, the theorems in proofs/.

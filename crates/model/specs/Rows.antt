@@ -1,10 +1,10 @@
 -- The rows of a scan.
 -- Assumes nothing.
-use Prim.Native.Nat.{ℕ, zero, suc, _-_, _*_, _^_}
+use Prim.Native.Nat.{ℕ, _-_, _^_}
 use mathlib.Core.Bool.{Bool, true, _&&_}
 use mathlib.Core.List.{List, [], _∷_, _++_}
 use lib.Dec.{eqb}
-use lib.ListN.{length, take, drop}
+use lib.ListN.{length}
 use Rattle.arith.specs.All.{all}
 use Rattle.rule.specs.Questions.{sampleGood}
 use Rattle.rule.specs.Sums.{Image, sampleAt}
@@ -22,8 +22,3 @@ scanned l rows = sampleAt l (flat rows)
 unfoldable pub goodRows : (l b : ℕ) → List (List ℕ) → Bool
 goodRows l b [] = true
 goodRows l b (row ∷ rows) = eqb (length row) l && (all (length row) (sampleGood (2 ^ b - 1) row) && goodRows l b rows)
-
--- the first n rows of l samples of a slice
-unfoldable pub rowsOfSlice : (l n : ℕ) → List ℕ → List (List ℕ)
-rowsOfSlice l zero xs = []
-rowsOfSlice l (suc n) xs = rowsOfSlice l n xs ++ (take l (drop (n * l) xs) ∷ [])

@@ -11,16 +11,23 @@ use lib.IntN.{ℤ, pos, negsuc}
 use lib.ListN.{length, getD, length-append, List·getD-append, List·getD-eq-default}
 use lib.Seq.{getD-append-add}
 use mir.Facts.{and-yes, yes-and}
-use borrow.Author.Tests.{lt-ltb, le-ltb}
+use borrow.Author.Tests.{lt-ltb, le-ltb, eq-eqb}
 use Rattle.arith.specs.All.{all}
 use Rattle.arith.proofs.Alls.{all-at, all-of}
+use Rattle.arith.proofs.Bools.{true-of}
 use Rattle.rule.specs.Mended.{mendedAt, mended}
 use Rattle.rule.proofs.Asked.{has-bits}
 use Rattle.rule.proofs.Mended.{small-good, mended-zero, mended-cong, getD-mended}
 use Rattle.rule.specs.Questions.{sampleGood}
-use Rattle.rule.specs.Sums.{sampleAt}
-use Rattle.run.specs.Rows.{flat, scanned, goodRows}
-use Rattle.run.proofs.Arrives.{InFrame}
+use Rattle.rule.specs.Sums.{Image, HasBits, sampleAt}
+use Rattle.model.specs.Rows.{flat, scanned, goodRows}
+
+-- a scan of rows of l samples of b bits
+pub record InFrame (l b : ℕ) (x : Image) : Type 0 where
+  pub above : (i : ℕ) (j : ℤ) → x (negsuc i) j ≡ 0
+  pub left : (i : ℤ) (j : ℕ) → x i (negsuc j) ≡ 0
+  pub right : (i : ℤ) (j : ℕ) → l ≤ j → x i (pos j) ≡ 0
+  pub bits : HasBits b x
 
 -- rows that are good
 pub record Good (l b : ℕ) (row : List ℕ) (rows : List (List ℕ)) : Type 0 where
@@ -71,12 +78,14 @@ flat-good l b (row ∷ rows) h k = go (flat-good l b rows (g .rest)) (ltb k (len
     g : Good l b row rows
     g = good l b row rows h
 
-    go : ((k : ℕ) → T (sampleGood (2 ^ b - 1) (flat rows) k)) → (q : Bool) → (T q → k < length row) → (T (not q) → length row ≤ k) → T (sampleGood (2 ^ b - 1) (row ++ flat rows) k)
+    go : ((k : ℕ) → T (sampleGood (2 ^ b - 1) (flat rows) k)) → (q : Bool) → (T q → k < length row) → (T (not q) → length row ≤ k)
+        → T (sampleGood (2 ^ b - 1) (row ++ flat rows) k)
     go more true y n = rw (List·getD-append row (flat rows) 0 k (y tt)) (all-at (length row) (sampleGood (2 ^ b - 1) row) (g .small) k (y tt))
     go more false y n =
         let m = n tt in
         let e : k ≡ length row + (k - length row) = omega arith in
-        subst (λ i. T (sampleGood (2 ^ b - 1) (row ++ flat rows) i)) (sym e) (rw (getD-append-add row (flat rows) (k - length row) 0) (more (k - length row)))
+        subst (λ i. T (sampleGood (2 ^ b - 1) (row ++ flat rows) i)) (sym e)
+        (rw (getD-append-add row (flat rows) (k - length row) 0) (more (k - length row)))
 
 pub flat-bits : (l b : ℕ) (rows : List (List ℕ)) → T (goodRows l b rows) → T (all (length (flat rows)) (sampleGood (2 ^ b - 1) (flat rows)))
 flat-bits l b rows h = all-of (length (flat rows)) (sampleGood (2 ^ b - 1) (flat rows)) (λ k p. flat-good l b rows h k)
@@ -136,9 +145,13 @@ good-append l b (row ∷ rows) more h g =
     let c = and-yes (all (length row) (sampleGood (2 ^ b - 1) row)) (goodRows l b rows) (a .1) in
     yes-and (eqb (length row) l) _ (a .0) (yes-and (all (length row) (sampleGood (2 ^ b - 1) row)) _ (c .0) (good-append l b rows more (c .1) g))
 
-pub good-one : (l b : ℕ) (row : List ℕ) → eqb (length row) l ≡ true → all (length row) (sampleGood (2 ^ b - 1) row) ≡ true → T (goodRows l b (row ∷ []))
+pub good-one : (l b : ℕ) (row : List ℕ) → eqb (length row) l ≡ true → all (length row) (sampleGood (2 ^ b - 1) row) ≡ true
+    → T (goodRows l b (row ∷ []))
 unfolding goodRows
 good-one l b row e f = rw (e, f) tt
+
+pub good-first : (l b : ℕ) (row : List ℕ) (rows : List (List ℕ)) → Good l b row rows → T (goodRows l b (row ∷ []))
+good-first l b row rows q = good-one l b row (eq-eqb (length row) l (q .long)) (true-of (all (length row) (sampleGood (2 ^ b - 1) row)) (q .small))
 
 -- a scan with more rows is the same in the rows before them, above the scan, and beside it
 module _ (l b : ℕ) (rows more : List (List ℕ)) (h : T (goodRows l b rows)) where

@@ -1,19 +1,15 @@
 -- The rows of an arrival: those that the edges reach, and the one that is due.
 -- Assumes nothing.
-use Prim.Native.Nat.{ℕ, suc, _+_, _-_, _*_, _/_, _^_, _≤_, _<_}
+use Prim.Native.Nat.{ℕ, suc, _+_}
 use native.Mathlib.Omega.{arith}
-use mathlib.Core.Path.{_≡_, refl, sym, ap, _∙_}
-use lib.IntN.{ℤ, pos, negsuc, subℕ, _+ℤ_, _-ℤ_}
-use Rattle.arith.specs.Sum.{sum}
-use Rattle.arith.specs.Part.{posPart, negPart}
-use Rattle.arith.specs.Diff.{Diff}
-use Rattle.arith.proofs.Sums.{sum-cong, sum-suc, sum-first}
+use mathlib.Core.Path.{_≡_}
+use lib.IntN.{ℤ, pos, subℕ, _+ℤ_, _-ℤ_}
+use Rattle.arith.specs.Part.{posPart}
 use Rattle.arith.proofs.Ints.{diff-parts, diff-add, diff-minus, diff-pos, diff-sub, diff-eq}
 use Rattle.layout.specs.declared.Rect.{Rect}
-use Rattle.layout.specs.declared.Table.{Table}
-use Rattle.layout.specs.Measure.{rowsOf, colsOf, delayOf}
-use Rattle.limits.proofs.Bounds.{Edges, extent, RectBounds}
-use Rattle.rule.specs.Sums.{Image, covered, columnSum}
+use Rattle.layout.specs.Measure.{rowsOf}
+use Rattle.limits.proofs.Bounds.{extent, RectBounds}
+use Rattle.rule.specs.Sums.{covered}
 
 -- the rows that the edges reach at arrival a, from the sum of the arrival before
 
@@ -23,7 +19,8 @@ leaving-row a delay trail =
     let q = diff-parts trail in
     diff-eq (diff-add (diff-add (diff-sub a (suc delay)) q) (diff-pos 1)) (diff-add (diff-minus (diff-pos a) (diff-pos delay)) q) (omega arith)
 
-pub entering-row : (a delay : ℕ) (d : Rect) → RectBounds d → covered (subℕ a (suc delay)) (d .trailrow) (rowsOf d) ≡ (pos a -ℤ pos delay) +ℤ d .leadrow
+pub entering-row : (a delay : ℕ) (d : Rect) → RectBounds d
+    → covered (subℕ a (suc delay)) (d .trailrow) (rowsOf d) ≡ (pos a -ℤ pos delay) +ℤ d .leadrow
 unfolding covered rowsOf
 entering-row a delay d b =
     let e = extent (b .row) in
