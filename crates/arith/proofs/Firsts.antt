@@ -3,7 +3,7 @@
 use Prim.Native.Nat.{ℕ, zero, suc, _≤_, _<_}
 use native.Mathlib.Nat.{not-suc-le-zero}
 use native.Mathlib.Omega.{arith}
-use mathlib.Core.Path.{_≡_, refl, ap}
+use mathlib.Core.Path.{_≡_, refl, ap, ap₂}
 use mathlib.Core.Bool.{Bool, true, false, cond}
 use lib.Dec.{T}
 use Rattle.arith.specs.All.{all}
@@ -47,6 +47,13 @@ first-fails (suc n) f h = go (first-fails n (λ k. f (suc k))) (f 0) refl h
     go : (firstNot n (λ k. f (suc k)) < n → f (suc (firstNot n (λ k. f (suc k)))) ≡ false) → (b : Bool) → f 0 ≡ b → cond b (suc (firstNot n (λ k. f (suc k)))) 0 < suc n → f (cond b (suc (firstNot n (λ k. f (suc k)))) 0) ≡ false
     go fails true e h = fails (omega arith)
     go fails false e h = e
+
+-- tests that agree below n fail first at one place
+pub first-cong : (n : ℕ) {f g : ℕ → Bool} → ((j : ℕ) → j < n → f j ≡ g j) → firstNot n f ≡ firstNot n g
+unfolding firstNot
+first-cong zero h = refl
+first-cong (suc n) {f} {g} h =
+    ap₂ (λ b k. cond b (suc k) 0) (h 0 (omega arith)) (first-cong n {f = λ j. f (suc j)} {g = λ j. g (suc j)} (λ j l. h (suc j) (omega arith)))
 
 -- f fails somewhere exactly when the first such place is below n
 pub first-below : (n : ℕ) (f : ℕ → Bool) → firstNot n f < n → all n f ≡ false

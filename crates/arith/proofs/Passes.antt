@@ -51,6 +51,10 @@ module _ {A : Type 0} where
   pass-whole n xs {f} e h =
       ap (λ l. tab n f ++ l) (drop-of-length-le xs {i = n} (le-of-eq e)) ∙ append-nil (tab n f) ∙ tab-cong n h
 
+  -- one pass after another, over the same places
+  pub pass-again : (n : ℕ) (f g : ℕ → A) (xs : List A) {ys : List A} → ys ≡ tab n f ++ drop n xs → tab n g ++ drop n ys ≡ tab n g ++ drop n xs
+  pass-again n f g xs e = ap (λ l. tab n g ++ l) (ap (drop n) e ∙ drop-at (tab n f) (drop n xs) n (length-tab n f))
+
   -- c of n places of xs are done, and ys is what stands there now: the invariant of a loop over a store, with its three laws (none
   -- done, one more, all done)
   pub record Pass (n : ℕ) (f : ℕ → A) (xs : List A) (c : ℕ) (ys : List A) : Type 0 where

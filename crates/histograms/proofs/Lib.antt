@@ -1,3 +1,5 @@
 mod Zero
 mod Edge
 mod Slides
+mod Rows
+mod Counts

@@ -8,15 +8,32 @@ use lib.Dec.{T}
 use lib.IntN.{ℤ, pos}
 use lib.ListN.{length, getD, drop}
 use Rattle.arith.specs.All.{all}
-use Rattle.arith.specs.Tab.{tab, zeroed}
+use Rattle.arith.specs.Tab.{tab, grid, zeroed}
+use Rattle.layout.specs.Measure.{rowsOf}
 use Rattle.limits.specs.Limits.{rectGood}
-use Rattle.levels.specs.Levels.{countAt, ranked}
+use Rattle.levels.specs.Levels.{countAt, movedAt, columnGoodAt, ranked}
 use Rattle.histograms.specs.declared.Arrival.{Arrival}
 use Rattle.histograms.specs.Windows.{windowCount}
 use Rattle.histograms.specs.Arrivals.{Counting, goodAt, countsAfter}
 use Rattle.histograms.specs.Spans.{Zeros}
 
--- the column counts
+-- the column counts, of which a row leaves and another enters, each once or not at all
+pub record ColumnsCount (a : Arrival) (counts off less on more : ℕ) : Type 0 where
+  pub rect : rectGood (a .rect) ≡ true
+  pub bits-most : a .b ≤ 8
+  pub counts-long : a .width * 256 ≤ counts
+  pub off-long : a .width ≤ off
+  pub on-long : a .width ≤ on
+  pub less-most : less ≤ 1
+  pub more-most : more ≤ 1
+
+pub record Moved (a : Arrival) (counts off : List ℕ) (less : ℕ) (on : List ℕ) (more : ℕ) (good : Bool) (after : List ℕ) : Type 0 where
+  pub answer : good ≡ all (a .width) (columnGoodAt (2 ^ a .b) (rowsOf (a .rect)) counts off less on more)
+  pub moved : T good → after ≡ grid (a .width) 256 (movedAt counts off less on more) ++ drop (a .width * 256) counts
+  pub kept : T (not good) → after ≡ counts
+  pub long : length after ≡ length counts
+
+-- the same of an arrival, with a line of zeros
 pub record CountFits (v : Counting) (zeros : List ℕ) : Type 0 where
   pub rect : rectGood (v .what .rect) ≡ true
   pub bits-most : v .what .b ≤ 8

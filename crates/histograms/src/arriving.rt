@@ -2,7 +2,7 @@
 ghost use mathlib.Core.Path.{_≡_};
 ghost use lib.ListN.{length};
 ghost use Rattle.histograms.specs.Arrivals.{counting, delayBy, arriveOf, leaves, Fits};
-ghost use Rattle.histograms.specs.Parts.{CountFits, Counted, ShowFits, Shown};
+ghost use Rattle.histograms.specs.Parts.{ColumnsCount, Moved, CountFits, Counted, ShowFits, Shown};
 use crate::Arrival;
 use crate::edges::edge_of;
 use crate::edges::edge_row;
@@ -26,7 +26,29 @@ fn delay(d: Rect) -> u32
     monus(biased_byte(d.leadrow), 128)
 }
 
-// Question 19 of every column; where all are good, their counts are moved on, and otherwise left as they are.
+// Question 19 of every column, of which `off` leaves and `on` enters; where all are good, their counts are moved on, and otherwise
+// left as they are.
+fn count_columns(
+    counts: &mut [u16],
+    off: &[u16],
+    less: u16,
+    on: &[u16],
+    more: u16,
+    a: Arrival,
+) -> bool
+    requires { ⌜ ColumnsCount a (length (now counts)) (length (now off)) less (length (now on)) more ⌝ }
+    ensures { λ g. ⌜ Moved a (now (counts .entry)) (now (off .entry)) less (now (on .entry)) more g (now (counts .exit)) ⌝ }
+{
+    let levels = power(a.b) as usize;
+    let most = rows(a.rect) as u16;
+    if !columns_good(counts, off, less, on, more, a.width, levels, most) {
+        return false;
+    }
+    move_columns(counts, off, less, on, more, a.width);
+    true
+}
+
+// The same of the rows that the window's edges reach.
 fn count_row<'a>(
     counts: &mut [u16],
     zeros: &'a [u16],
@@ -38,20 +60,13 @@ fn count_row<'a>(
     ensures { λ g. ⌜ Counted (counting a (now (row .entry)) (now (samples .entry)) (now (counts .entry))) g (now (counts .exit)) ⌝ }
 {
     let d = a.rect;
-    let width = a.width;
     let number = a.number as usize;
     let late = delay(d) as usize;
     let off = edge_of(number, late, a.given as usize, d.trailrow);
     let on = edge_of(number, late, a.given as usize, d.leadrow);
-    let leaving = edge_row(samples, row, zeros, width, number, off);
-    let entering = edge_row(samples, row, zeros, width, number, on);
-    let levels = power(a.b) as usize;
-    let most = rows(d) as u16;
-    if !columns_good(counts, leaving, off.times, entering, on.times, width, levels, most) {
-        return false;
-    }
-    move_columns(counts, leaving, off.times, entering, on.times, width);
-    true
+    let leaving = edge_row(samples, row, zeros, a.width, number, off);
+    let entering = edge_row(samples, row, zeros, a.width, number, on);
+    count_columns(counts, leaving, off.times, entering, on.times, a)
 }
 
 // The filtered row of these counts; the window counts are zero before it and after it.

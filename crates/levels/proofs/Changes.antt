@@ -6,9 +6,10 @@ use native.Mathlib.Omega.{arith}
 use mathlib.Core.Path.{_≡_, refl, sym, ap, ap₂, _∙_}
 use mathlib.Core.Bool.{Bool, true, false, cond, _&&_}
 use mathlib.Core.List.{List}
-use lib.Dec.{T, leb, ltb, ltb→lt, leb→le, le→leb}
+use lib.Dec.{T, leb, ltb, eqb, ltb→lt, leb→le, le→leb}
 use lib.ListN.{length, getD, set, length-set}
 use lib.Seq.{ext-getD, getD-set-same, getD-set-other}
+use mir.Facts.{and-yes}
 use borrow.Author.Tests.{eq-eqb, ne-eqb}
 use borrow.Rule.Slice.PartMut.{putMid}
 use Rattle.arith.specs.All.{all}
@@ -119,3 +120,42 @@ module _ (counts : List ℕ) (c n : ℕ) (h : c * 256 + n ≤ length counts) whe
         counted = rw (part-at (c * 256) n counts x (f .off-level)) (f .counted);
         room = rw (part-at (c * 256) n counts y (f .on-level)) (f .room);
       }
+
+-- ---- what a column tells that is good
+
+pub record GoodColumn (n most : ℕ) (count : ℕ → ℕ) (x less y more : ℕ) : Type 0 where
+  pub off-level : x < n
+  pub on-level : y < n
+  pub counted : less ≤ count x
+  pub within : (v : ℕ) → v < n → movedCount count x less y more v ≤ most
+
+pub good-column : (n most : ℕ) (count : ℕ → ℕ) (x less y more : ℕ) → T (columnGood n most count x less y more) → GoodColumn n most count x less y more
+unfolding columnGood
+good-column n most count x less y more t =
+    let a = and-yes (ltb x n) _ t in
+    let b = and-yes (ltb y n) _ (a .1) in
+    let c = and-yes (leb less (count x)) _ (b .1) in
+    record {
+      off-level = ltb→lt x n (a .0);
+      on-level = ltb→lt y n (b .0);
+      counted = leb→le less (count x) (c .0);
+      within = λ v h. leb→le _ most (all-at n (λ v. leb (movedCount count x less y more v) most) (c .1) v h);
+    }
+
+-- it has room for what enters
+pub good-fits : {n most : ℕ} {count : ℕ → ℕ} {x less y more : ℕ} → GoodColumn n most count x less y more → n ≤ 256 → most ≤ 255 → less ≤ 1 → more ≤ 1
+    → ChangeFits 256 count x less y more
+unfolding movedCount
+good-fits {n} {most} {count} {x} {less} {y} {more} g few small p q =
+    let a = g .off-level in
+    let b = g .on-level in
+    let w = g .within y b in
+    let l = one-most less x y in
+    record { off-level = omega arith; on-level = omega arith; counted = g .counted; room = omega arith }
+  where
+    one-most : (times x v : ℕ) → one times x v ≤ times
+    one-most times x v = go (eqb x v)
+      where
+        go : (b : Bool) → cond b times 0 ≤ times
+        go true = omega arith
+        go false = omega arith

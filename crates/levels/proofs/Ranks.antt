@@ -2,14 +2,15 @@
 -- Assumes nothing.
 use Prim.Native.Nat.{ℕ, zero, suc, _+_, _≤_, _<_}
 use native.Mathlib.Omega.{arith}
-use mathlib.Core.Path.{_≡_, refl}
-use lib.Dec.{T, lt→ltb, ltb→lt}
+use mathlib.Core.Path.{_≡_, refl, ap, ap₂, _∙_}
+use mathlib.Core.Bool.{cond}
+use lib.Dec.{T, leb, ltb, eqb, lt→ltb, ltb→lt}
 use lib.IntN.{pos}
 use borrow.Author.Tests.{le-leb, lt-leb, le-ltb, ltb-false, eq-eqb, ne-eqb}
 use Rattle.arith.specs.Sum.{sum}
 use Rattle.arith.specs.First.{firstNot}
-use Rattle.arith.proofs.Sums.{sum-prefix, sum-suc}
-use Rattle.arith.proofs.Firsts.{first-at, first-none, first-before, first-fails}
+use Rattle.arith.proofs.Sums.{sum-prefix, sum-suc, sum-cong}
+use Rattle.arith.proofs.Firsts.{first-at, first-none, first-before, first-fails, first-cong}
 use Rattle.levels.specs.Levels.{upTo, below, highest, ranked}
 
 -- the top level counts, or the highest is the highest below it
@@ -49,3 +50,16 @@ module _ (f : ℕ → ℕ) (R : ℕ) where
   unfolding ranked upTo sum
   ranked-none zero r h = rw (lt-leb R 0 r) refl
   ranked-none (suc n) r h = rw (lt-leb R (sum (suc n) f) (ltb→lt (sum (suc n) f) R (first-before (suc n) (below f R) n (omega arith)))) refl
+
+-- counts that agree below n have one highest level, and one level of each rank
+pub highest-cong : (n : ℕ) {f g : ℕ → ℕ} → ((v : ℕ) → v < n → f v ≡ g v) → highest n f ≡ highest n g
+unfolding highest
+highest-cong zero h = refl
+highest-cong (suc n) h = ap₂ (λ k z. cond (eqb k 0) z (pos n)) (h n (omega arith)) (highest-cong n (λ v l. h v (omega arith)))
+
+pub ranked-cong : (n R : ℕ) {f g : ℕ → ℕ} → ((v : ℕ) → v < n → f v ≡ g v) → ranked n R f ≡ ranked n R g
+unfolding ranked upTo
+ranked-cong n R {f} {g} h =
+    let s = sum-cong n h in
+    let e = first-cong n {f = below f R} {g = below g R} (λ v l. ap (λ k. ltb k R) (sum-cong (suc v) (λ u i. h u (omega arith)))) in
+    ap₂ (λ k z. cond (leb R k) (pos z) (highest n f)) s e ∙ ap (λ z. cond (leb R (sum n g)) (pos (firstNot n (below g R))) z) (highest-cong n h)
