@@ -9,15 +9,17 @@ use mathlib.Core.List.{List, _++_}
 use lib.Dec.{T}
 use lib.IntN.{ℤ, pos}
 use lib.ListN.{length, getD, drop}
+use lib.Pow.{pow-mono}
 use Rattle.arith.specs.All.{all}
 use Rattle.arith.specs.Tab.{tab, grid}
-use Rattle.arith.proofs.Alls.{all-cong}
-use Rattle.arith.proofs.Grids.{grid-cong}
+use Rattle.arith.proofs.Alls.{all-cong, all-at}
+use Rattle.arith.proofs.Grids.{grid-cong, grid-at}
 use Rattle.arith.proofs.Ints.{diff-posPart}
 use Rattle.arith.proofs.Tabs.{length-tab, getD-tab}
 use Rattle.layout.specs.Measure.{rowsOf}
 use Rattle.limits.specs.Limits.{rectGood}
 use Rattle.limits.proofs.Bounds.{rect-bounds}
+use Rattle.levels.proofs.Changes.{good-column}
 use Rattle.ring.specs.Ring.{rowAt}
 use Rattle.levels.specs.Levels.{countAt, movedCount, columnGood}
 use Rattle.histograms.specs.declared.Arrival.{Arrival}
@@ -91,3 +93,14 @@ delay-most a e =
     let p = diff-posPart (b .row .lead-is) in
     let m = b .row .most in
     omega arith
+
+-- an arrival that passes question 19 leaves counts of at most 31
+pub counts-small : (v : Counting) → rectGood (v .what .rect) ≡ true → v .what .b ≤ 8 → T (all (v .what .width) (goodAt v))
+    → (j u : ℕ) → j < v .what .width → u < 2 ^ v .what .b → countAt (countsAfter v) j u ≤ 31
+unfolding countsAfter goodAt newCount
+counts-small v e few t j u h i =
+    let d = v .what .rect in
+    let b = rect-bounds d (subst T (sym e) tt) .rows-most in
+    let n = pow-mono few in
+    let g = good-column (2 ^ v .what .b) (rowsOf d) (countAt (v .counts) j) _ _ _ _ (all-at (v .what .width) (goodAt v) t j h) .within u i in
+    rw (grid-at (v .what .width) 256 (newCount v) (drop (v .what .width * 256) (v .counts)) 0 j u h (omega arith)) (omega arith)

@@ -81,7 +81,13 @@ fn show_row<'a>(
     ensures { λ _. ⌜ Shown a (now (counts .entry)) (now (out .entry)) (now (windows .entry)) (now (out .exit)) (now (windows .exit)) ⌝ }
 {
     let levels = power(a.b) as usize;
-    write_row(out, windows, counts, zeros, span_of(a.rect, a.width, levels, a.rank));
+    write_row(
+        out,
+        windows,
+        counts,
+        zeros,
+        span_of(a.rect, a.width, levels, a.rank),
+    );
     zero_samples(windows, 256);
 }
 

@@ -5,8 +5,8 @@ mod arriving;
 mod edges;
 mod windows;
 
-use layout::Rect;
 pub use arriving::arrive;
+use layout::Rect;
 
 // What arrives, beside the row: the window, the bits of a sample, the rank, the columns, the arrival's number, and how many rows are
 // given, this one included.
