@@ -5,7 +5,7 @@ use native.Mathlib.Omega.{arith}
 use native.Mathlib.Nat.{le-of-eq, le-refl, mul-le-mul}
 use mathlib.Core.Path.{_≡_, sym, ap, _∙_}
 use mathlib.Core.List.{List, _++_, append-nil, append-assoc}
-use lib.ListN.{length, getD, take, drop, length-drop, drop-of-length-le, take-append-drop}
+use lib.ListN.{length, getD, take, drop, replicate, length-drop, length-replicate, getD-replicate, drop-of-length-le, take-append-drop}
 use lib.Seq.{take-all, take-add, drop-drop, getD-take, getD-drop, length-take-le}
 use borrow.Rule.Slice.PartMut.{putMid}
 use Rattle.arith.specs.Tab.{tab, paste}
@@ -68,3 +68,8 @@ module _ {A : Type 0} (p l : ℕ) (xs : List A) where
   pub paste-own : p + l ≤ length xs → paste p (take l (drop p xs)) xs ≡ xs
   unfolding paste
   paste-own h = rw (part-long h, sym (take-add p l xs)) (take-append-drop (p + l) xs)
+
+-- the first places of a line of zeros
+pub zeros-part : (l n : ℕ) → l ≤ n → take {A = ℕ} (l - 0) (replicate n 0) ≡ tab l (λ k. 0)
+zeros-part l n h =
+    first-tab (l - 0) l (replicate n 0) (omega arith) (rw (length-replicate {A = ℕ} n 0) h) ∙ tab-cong l (λ k i. getD-replicate n k 0 0 (omega arith))

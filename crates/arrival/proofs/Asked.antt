@@ -1,14 +1,12 @@
 -- What the questions before 19 tell of the stores.
 -- Assumes nothing.
-use Prim.Native.Nat.{ℕ, _*_, _/_, _≤_, _<_}
-use native.Mathlib.Nat.{div-mul-le-self, lt-div-mul-add, mul-le-mul-left}
+use Prim.Native.Nat.{ℕ, _*_, _≤_}
 use native.Mathlib.Omega.{arith}
 use mathlib.Core.Path.{_≡_, sym, subst}
-use mathlib.Core.Bool.{Bool, true, false, not, _&&_}
+use mathlib.Core.Bool.{true, _&&_}
 use mathlib.Core.List.{List}
-use lib.Dec.{T, leb, leb→le, nleb→lt}
+use lib.Dec.{T, leb, leb→le}
 use lib.ListN.{length}
-use borrow.Author.Tests.{le-leb, lt-leb}
 use mir.Facts.{and-yes}
 use Rattle.arith.proofs.Bools.{true-of}
 use Rattle.layout.specs.Measure.{delayOf}
@@ -16,20 +14,6 @@ use Rattle.arrival.specs.Arrivals.{Arrival, storesGood, Fits}
 use Rattle.arrival.specs.Rectangles.{Zeros, StepFits}
 use Rattle.arrival.proofs.Carries.{withSums}
 use Rattle.arrival.proofs.Delays.{delay-most}
-
--- n holds k·l where n / k holds l
-pub divided : (k l n : ℕ) → 0 < k → leb (k * l) n ≡ leb l (n / k)
-divided k l n p = go (leb l (n / k)) (leb→le l (n / k)) (nleb→lt l (n / k))
-  where
-    go : (b : Bool) → (T b → l ≤ n / k) → (T (not b) → n / k < l) → leb (k * l) n ≡ b
-    go true f g =
-        let m = mul-le-mul-left k (f tt) in
-        let d = div-mul-le-self n k in
-        le-leb (k * l) n (omega arith)
-    go false f g =
-        let m = mul-le-mul-left k (g tt) in
-        let d = lt-div-mul-add {a = n} p in
-        lt-leb (k * l) n (omega arith)
 
 -- stores that are long enough
 pub stores-bounds : (l count samples sums : ℕ) → storesGood l count samples sums ≡ true → (32 * l ≤ samples) × (count * l ≤ sums)

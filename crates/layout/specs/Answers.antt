@@ -1,8 +1,9 @@
 -- What a call says, in the papers' numbers; its questions; and what it leaves.
 -- Assumes nothing.
-use Prim.Native.Nat.{ℕ}
+use Prim.Native.Nat.{ℕ, _-_}
 use mathlib.Core.Bool.{Bool, cond}
 use mathlib.Core.List.{List, [], _∷_}
+use lib.Dec.{ltb}
 use lib.IntN.{ℤ, pos}
 use Rattle.arith.specs.All.{all}
 use Rattle.arith.specs.First.{firstNot}
@@ -50,6 +51,10 @@ closingSaid (LateRow r) = accepted (pos r ∷ [])
 closingSaid StillWaiting = waiting
 closingSaid Done = done
 closingSaid (StepRefused number place) = refused number place
+
+-- what an arrival says with delay d: row a - d is out, or none is due yet
+abbrev pub dueAt : (a d : ℕ) → Said
+dueAt a d = cond (ltb a d) waiting (accepted (pos (a - d) ∷ []))
 
 -- ---- questions
 

@@ -1,7 +1,10 @@
 // A table by value, in the file's own widths, and the figures that follow from it: rows and columns of a
 // rectangle, word lengths, delay. The answers of the calls, and in specs/ what they say in the papers' numbers.
+mod dues;
 mod measure;
 
+pub use dues::due_row;
+pub use dues::due_step;
 pub use measure::column_word;
 pub use measure::columns;
 pub use measure::delay;

@@ -10,7 +10,7 @@ use lib.IntN.{ℤ, pos}
 use lib.ListN.{length, drop}
 use Rattle.arith.specs.Tab.{tab}
 use Rattle.arith.proofs.Tabs.{tab-cong}
-use Rattle.layout.specs.Answers.{Said, accepted, waiting, Left, left}
+use Rattle.layout.specs.Answers.{Said, accepted, waiting, dueAt, Left, left}
 use Rattle.layout.specs.Sequences.{Reply, reply, replyOf}
 use Rattle.model.specs.Rows.{goodRows}
 use Rattle.model.specs.Machines.{Filter, Machine, dueLeft}
@@ -18,7 +18,7 @@ use Rattle.model.specs.Wholes.{Settled, dueReply}
 
 -- what arrival a says, and what it leaves in the output
 abbrev pub saysDue : Filter → (a : ℕ) → Said
-saysDue f a = cond (ltb a (f .delay)) waiting (accepted (pos (a - f .delay) ∷ []))
+saysDue f a = dueAt a (f .delay)
 
 abbrev pub leavesDue : Filter → (a : ℕ) → (rows : List (List ℕ)) → (out : List ℤ) → List ℤ
 leavesDue f a rows out = cond (ltb a (f .delay)) out (tab (f .width) (f .pixel rows (a - f .delay)) ++ drop (f .width) out)

@@ -143,3 +143,10 @@ mended-part line row n e = go (leb (length row) (length line)) (leb→le (length
         ∙ ap (take (length line)) (tab-append (length line) (length row - length line) (mendedAt (λ k. getD row k 0)))
         ∙ take-at (tab (length line) (mendedAt (λ k. getD row k 0))) _ (length line) (length-tab (length line) (mendedAt (λ k. getD row k 0)))))
         (drop-of-length-le line {i = n} (omega arith) ∙ sym (drop-of-length-le line {i = length row} (omega arith)))
+
+-- the first places of a line that took a mended row of their number
+pub mended-line :
+    (line zeros row : List ℕ) (l : ℕ) → line ≡ take (length zeros) (mended row) ++ drop (length row) zeros → length (mended row) ≡ l → l ≤ length zeros
+    → take (l - 0) line ≡ mended row
+mended-line line zeros row l e long h =
+    rw (e, take-all (length zeros) (mended row) (omega arith)) (take-at (mended row) (drop (length row) zeros) (l - 0) (omega arith))

@@ -5,10 +5,10 @@ use mathlib.Core.Bool.{Bool, true, false, not, cond, _&&_}
 use mathlib.Core.List.{List, [], _∷_, _++_}
 use lib.Dec.{leb, ltb, eqb}
 use lib.ListN.{length}
-use lib.IntN.{ℤ, pos}
+use lib.IntN.{ℤ}
 use Rattle.arith.specs.Tab.{tab, zeroed}
 use Rattle.layout.specs.declared.Table.{Table}
-use Rattle.layout.specs.Answers.{Said, refused, accepted, waiting, done, Question, asks, asksEach, firstNo, Left, left}
+use Rattle.layout.specs.Answers.{Said, refused, accepted, done, dueAt, Question, asks, asksEach, firstNo, Left, left}
 use Rattle.layout.specs.Measure.{delayOf}
 use Rattle.limits.specs.Limits.{acceptable}
 use Rattle.rule.specs.Mended.{mended}
@@ -58,7 +58,7 @@ arrivalOf w row = arriving (w .scan .table) (w .scan .width) (w .scan .rows + w 
 
 -- row a - D is out, or none is due yet
 unfoldable pub dueSaid : Scan → Said
-dueSaid s = cond (ltb (s .rows + s .steps) (delayOf (s .table))) waiting (accepted (pos (s .rows + s .steps - delayOf (s .table)) ∷ []))
+dueSaid s = dueAt (s .rows + s .steps) (delayOf (s .table))
 
 -- an arrival that is taken in, and the scan after it
 abbrev pub takenIn : World → (after : Scan) → Arrival → (out : List ℤ) → Left World

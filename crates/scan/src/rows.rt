@@ -16,6 +16,7 @@ use layout::Answer;
 use layout::Table;
 use layout::Verdict;
 use layout::delay;
+use layout::due_row;
 use rule::first_above;
 use rule::mend;
 
@@ -95,18 +96,10 @@ fn row_taken(s: Scan) -> Moved
     requires { ⌜ (s .rows ≤ 65535) × (s .steps ≤ 15) ⌝ }
     ensures { λ r. ⌜ (answerSaid (r .answer) ≡ dueSaid s) × (r .scan ≡ rowIn s) ⌝ }
 {
-    let a = s.rows + s.steps;
-    let d = delay(s.table);
     let mut after = s;
     after.rows = s.rows + 1;
-    if a < d {
-        return Moved {
-            answer: Answer::Waiting,
-            scan: after,
-        };
-    }
     Moved {
-        answer: Answer::Row(a - d),
+        answer: due_row(s.rows + s.steps, delay(s.table)),
         scan: after,
     }
 }

@@ -11,6 +11,7 @@ use arrival::arrive;
 use layout::Closing;
 use layout::Verdict;
 use layout::delay;
+use layout::due_step;
 
 // The answer to a step that is not taken, with the scan as it was.
 fn stopped(answer: Closing, s: Scan) -> Stepped
@@ -24,18 +25,10 @@ fn step_taken(s: Scan) -> Stepped
     requires { ⌜ (s .rows ≤ 65535) × (s .steps ≤ 15) ⌝ }
     ensures { λ r. ⌜ (closingSaid (r .answer) ≡ dueSaid s) × (r .scan ≡ stepIn s) ⌝ }
 {
-    let a = s.rows + s.steps;
-    let d = delay(s.table);
     let mut after = s;
     after.steps = s.steps + 1;
-    if a < d {
-        return Stepped {
-            answer: Closing::Waiting,
-            scan: after,
-        };
-    }
     Stepped {
-        answer: Closing::Row(a - d),
+        answer: due_step(s.rows + s.steps, delay(s.table)),
         scan: after,
     }
 }

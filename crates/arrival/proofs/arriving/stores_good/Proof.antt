@@ -1,6 +1,6 @@
 -- `arrival::stores_good` divides where the definition multiplies, so that nothing wraps: k·l ≤ n exactly when l ≤ n / k (`divided`).
 -- Assumes nothing.
-use Rattle.arrival.proofs.Asked.{divided}
+use Rattle.arith.proofs.Cut.{divided}
 use Rattle.arrival.specs.Arrivals.{storesGood}
 use borrow.Author.Tests.{le-leb, lt-leb}
 use mathlib.Core.Path.{refl, sym}

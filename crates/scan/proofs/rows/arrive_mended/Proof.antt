@@ -5,7 +5,7 @@ use native.Mathlib.Nat.{le-trans, le-of-eq}
 use mathlib.Core.Path.{_≡_, sym}
 use lib.ListN.{take, replicate, length-replicate}
 use Rattle.rule.specs.Mended.{mended}
-use Rattle.scan.proofs.Rooms.{mended-line}
+use Rattle.rule.proofs.Mended.{mended-line}
 use borrow.Author.Needs.{needs}
 use Rattle.scan.proofs.rows.arrive_mended.Statement.{statement}
 use Rattle.scan.proofs.rows.arrive_mended.Tie as tie

@@ -1,10 +1,11 @@
 -- Questions 14 and 15, done where D steps are past, question 13, then the arrival of a row of zeros.
 use Rattle.arith.specs.Tab.{tab}
+use Rattle.arith.proofs.Parts.{zeros-part}
 use Rattle.arith.proofs.Tabs.{length-tab}
 use Prim.Native.Nat.{ℕ, _-_, _≤_}
 use mathlib.Core.Path.{_≡_, refl, sym, _∙_}
 use lib.ListN.{length, take, replicate}
-use Rattle.scan.proofs.Rooms.{counts, arrives, zeros}
+use Rattle.scan.proofs.Rooms.{counts, arrives}
 use Rattle.scan.proofs.Lefts.{step-by, step-arrives}
 use Rattle.scan.proofs.States.{agreed}
 use Rattle.arith.proofs.Bools.{yes, no}
@@ -53,7 +54,7 @@ narrow c = let p = c .before .before in width-bounds (agreed (start p .args .s) 
 
 -- what arrives is a row of zeros
 line : (c : tie.Else4) → take {A = ℕ} (start (c .before .before) .args .s .width - 0) (replicate 1024 0) ≡ tab (start (c .before .before) .args .s .width) (λ k. 0)
-line c = zeros (start (c .before .before) .args .s .width) 1024 (narrow c)
+line c = zeros-part (start (c .before .before) .args .s .width) 1024 (narrow c)
 
 arrived : (c : tie.Else4) → Fits (closingOf (given (c .before .before))) (length (start (c .before .before) .args .out .now))
 arrived c = let p = c .before .before in arrives (given p) _ _ (shut (opened p) .state) (length-tab {A = ℕ} _ (λ k. 0)) (lent c)
