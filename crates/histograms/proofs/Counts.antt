@@ -17,6 +17,7 @@ use Rattle.arith.proofs.Grids.{grid-cong, grid-at}
 use Rattle.arith.proofs.Ints.{diff-posPart}
 use Rattle.arith.proofs.Tabs.{length-tab, getD-tab}
 use Rattle.layout.specs.Measure.{rowsOf}
+use Rattle.layout.specs.declared.Rect.{Rect}
 use Rattle.limits.specs.Limits.{rectGood}
 use Rattle.limits.proofs.Bounds.{rect-bounds}
 use Rattle.levels.proofs.Changes.{good-column}
@@ -87,9 +88,9 @@ module _ (v : Counting) where
         }
 
 -- the delay of a window within the limits
-pub delay-most : (a : Arrival) → rectGood (a .rect) ≡ true → delayBy (a .rect) ≤ 15
-delay-most a e =
-    let b = rect-bounds (a .rect) (subst T (sym e) tt) in
+pub delay-most : (d : Rect) → rectGood d ≡ true → delayBy d ≤ 15
+delay-most d e =
+    let b = rect-bounds d (subst T (sym e) tt) in
     let p = diff-posPart (b .row .lead-is) in
     let m = b .row .most in
     omega arith

@@ -2,4 +2,4 @@ mod Zero
 mod Edge
 mod Slides
 mod Rows
-mod Counts
+pub mod Counts

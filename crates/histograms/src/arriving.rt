@@ -19,8 +19,8 @@ use levels::columns_good;
 use levels::move_columns;
 use ring::keep;
 
-// D of a window.
-fn delay(d: Rect) -> u32
+// D of a window: its lead row, or 0 where that is negative.
+pub fn delay(d: Rect) -> u32
     ensures { λ r. ⌜ r ≡ delayBy d ⌝ }
 {
     monus(biased_byte(d.leadrow), 128)

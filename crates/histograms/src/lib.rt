@@ -6,6 +6,7 @@ mod edges;
 mod windows;
 
 pub use arriving::arrive;
+pub use arriving::delay;
 use layout::Rect;
 
 // What arrives, beside the row: the window, the bits of a sample, the rank, the columns, the arrival's number, and how many rows are

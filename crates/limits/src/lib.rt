@@ -9,6 +9,7 @@ mod value;
 pub use accept::accepted;
 pub use figure::Figure;
 pub use figure::loss;
+pub use header::bits_good;
 pub use header::head;
 pub use rects::rect_good;
 pub use value::value_good;

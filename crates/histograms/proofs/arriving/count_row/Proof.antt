@@ -21,7 +21,7 @@ counts-of z = counting (z .args .a) (z .args .row .now) (z .args .samples .now) 
 
 -- the delay, and the two edges
 late : (d : tie.After-delay) → d .delay .result ≤ 15
-late d = let m = delay-most (begun d .args .a) (begun d .pre .rect) in let e = d .delay .ensures in omega arith
+late d = let m = delay-most (begun d .args .a .rect) (begun d .pre .rect) in let e = d .delay .ensures in omega arith
 
 off-edge : (c : tie.After-edge-of)
     → let z = begun (c .before .before .before) in
