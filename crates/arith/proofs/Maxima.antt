@@ -3,7 +3,7 @@
 use Prim.Native.Nat.{ℕ, zero, suc, max, _≤_, _<_, zero-le}
 use native.Mathlib.Nat.{le-step, lt-suc-self, le-suc-iff, suc-inj, not-suc-le-zero}
 use native.Mathlib.Omega.{arith}
-use mathlib.Core.Path.{_≡_, refl, sym, ap}
+use mathlib.Core.Path.{_≡_, refl, sym, ap, ap₂}
 use mathlib.Core.Logic.{⊎-elim}
 use Rattle.arith.specs.Largest.{largest}
 
@@ -37,3 +37,9 @@ largest-beyond m (suc n) f z h =
     ⊎-elim (λ (p : m ≤ n). let q = largest-beyond m n f (λ k a b. z k a (le-step b)) p in let r = z n p (lt-suc-self n) in omega arith)
     (λ (e : m ≡ suc n). ap (λ k. largest k f) (sym e))
     (le-suc-iff .0 h)
+
+-- functions that agree below n have the same largest
+pub largest-cong : (n : ℕ) {f g : ℕ → ℕ} → ((k : ℕ) → k < n → f k ≡ g k) → largest n f ≡ largest n g
+unfolding largest
+largest-cong zero h = refl
+largest-cong (suc n) h = ap₂ max (largest-cong n (λ k l. h k (le-step l))) (h n (lt-suc-self n))

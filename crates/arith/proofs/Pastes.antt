@@ -4,7 +4,7 @@ use Prim.Native.Nat.{ℕ, _+_, _-_, _≤_, _<_}
 use native.Mathlib.Omega.{arith}
 use mathlib.Core.Path.{_≡_, ap, _∙_}
 use mathlib.Core.List.{List, _++_}
-use lib.ListN.{length, getD, take, drop, length-append, List·getD-append}
+use lib.ListN.{length, getD, take, drop, length-append, length-drop, List·getD-append}
 use lib.Seq.{getD-append-add, getD-take, getD-drop, length-take-le}
 use Rattle.arith.specs.Tab.{paste}
 
@@ -12,6 +12,15 @@ use Rattle.arith.specs.Tab.{paste}
 module _ (p : ℕ) (xs ys : List ℕ) (h : p + length xs ≤ length ys) where
   front : length (take p ys) ≡ p
   front = length-take-le p ys (omega arith)
+
+  pub paste-length : length (paste p xs ys) ≡ length ys
+  unfolding paste
+  paste-length =
+      let f = front in
+      let a = length-append (take p ys ++ xs) (drop (p + length xs) ys) in
+      let b = length-append (take p ys) xs in
+      let c = length-drop (p + length xs) ys in
+      omega arith
 
   pub paste-before : (k : ℕ) → k < p → getD (paste p xs ys) k 0 ≡ getD ys k 0
   unfolding paste

@@ -18,7 +18,7 @@ use Rattle.histograms.specs.Arrivals.{Fits, counting}
 use Rattle.histograms.proofs.Counts.{delay-most}
 use Rattle.rank.specs.declared.RankScan.{RankScan}
 use Rattle.rank.specs.Calls.{World, rectOf, agrees, storesGood, lentGood, arrivalOf, rowAsks}
-use Rattle.rank.proofs.States.{agreed, stores-bounds}
+use Rattle.rank.proofs.States.{bits-most, rank-some, agreed, stores-bounds}
 
 -- the numbers of a state that agrees
 pub few : (s : RankScan) → agrees s ≡ true → (s .rows ≤ 65535) × (s .steps ≤ 15)
@@ -41,8 +41,8 @@ arrives w given row out e long lent =
     let b = stores-bounds (s .width) (length (w .samples)) (length (w .counts)) (length (w .windows)) (true-of _ (h .0)) in
     record {
       rect = a .window .rect;
-      bits-most = a .window .bits-most;
-      ranked = a .window .rank-some;
+      bits-most = bits-most (a .window);
+      ranked = rank-some (a .window);
       width-most = width-bounds (a .width) .1;
       number-most = omega arith;
       long = long;

@@ -1,51 +1,43 @@
 -- What the answers to the questions on a window, on a state and on a start tell.
 -- Assumes nothing.
 use Prim.Native.Nat.{ℕ, _*_, _≤_}
-use native.Mathlib.Omega.{arith}
 use mathlib.Core.Path.{_≡_, sym, subst}
-use mathlib.Core.Bool.{Bool, true, cond, _&&_}
+use mathlib.Core.Bool.{true, cond, _&&_}
 use lib.Dec.{T, leb, eqb, leb→le}
 use mir.Facts.{and-yes}
+use borrow.Author.Tests.{leb-true}
 use Rattle.arith.proofs.Bools.{true-of}
 use Rattle.layout.specs.declared.Verdict.the-variants.{Accepted}
 use Rattle.layout.specs.Answers.{verdict}
-use Rattle.layout.specs.Measure.{rowsOf, colsOf}
 use Rattle.layout.proofs.Questions.{all-yes}
 use Rattle.limits.specs.Limits.{bitsGood, rectGood}
 use Rattle.rule.specs.Questions.{widthGood}
 use Rattle.rank.specs.declared.Window.{Window}
 use Rattle.rank.specs.declared.RankScan.{RankScan}
-use Rattle.rank.specs.Calls.{rectOf, rankDelay, rankGood, windowGood, agrees, storesGood, lentGood, startAsks}
-
--- a rank that question 22 accepts
-pub rank-bounds : (w : Window) (rank : ℕ) → rankGood w rank ≡ true → (1 ≤ rank) × (rank ≤ rowsOf (rectOf w) * colsOf (rectOf w))
-unfolding rankGood
-rank-bounds w rank e =
-    let h = and-yes (leb 1 rank) (leb rank (rowsOf (rectOf w) * colsOf (rectOf w))) (subst T (sym e) tt) in
-    (leb→le 1 rank (h .0), leb→le rank _ (h .1))
+use Rattle.rank.specs.Calls.{rectOf, rankDelay, rankGood, windowGood, agrees, storesGood, startAsks}
 
 -- a window that questions 3, 23, 8 and 22 accept
 pub record Windowed (w : Window) (b rank : ℕ) : Type 0 where
-  pub bits-some : 1 ≤ b
-  pub bits-most : b ≤ 8
+  pub bits : bitsGood b ≡ true
+  pub few : leb b 8 ≡ true
   pub rect : rectGood (rectOf w) ≡ true
-  pub rank-some : 1 ≤ rank
-  pub rank-most : rank ≤ rowsOf (rectOf w) * colsOf (rectOf w)
+  pub ranks : rankGood w rank ≡ true
 
 pub windowed : (w : Window) (b rank : ℕ) → windowGood w b rank ≡ true → Windowed w b rank
-unfolding windowGood bitsGood
+unfolding windowGood
 windowed w b rank e =
-    let h = and-yes (leb 1 b && leb b 12) (leb b 8 && (rectGood (rectOf w) && rankGood w rank)) (subst T (sym e) tt) in
+    let h = and-yes (bitsGood b) (leb b 8 && (rectGood (rectOf w) && rankGood w rank)) (subst T (sym e) tt) in
     let i = and-yes (leb b 8) (rectGood (rectOf w) && rankGood w rank) (h .1) in
     let j = and-yes (rectGood (rectOf w)) (rankGood w rank) (i .1) in
-    let r = rank-bounds w rank (true-of _ (j .1)) in
-    record {
-      bits-some = leb→le 1 b (and-yes (leb 1 b) (leb b 12) (h .0) .0);
-      bits-most = leb→le b 8 (i .0);
-      rect = true-of _ (j .0);
-      rank-some = r .0;
-      rank-most = r .1;
-    }
+    record { bits = true-of _ (h .0); few = true-of _ (i .0); rect = true-of _ (j .0); ranks = true-of _ (j .1) }
+
+-- it has at most 8 bits, and R is at least 1
+pub bits-most : {w : Window} {b rank : ℕ} → Windowed w b rank → b ≤ 8
+bits-most {b = b} h = leb-true b 8 (h .few)
+
+pub rank-some : {w : Window} {b rank : ℕ} → Windowed w b rank → 1 ≤ rank
+unfolding rankGood
+rank-some {w = w} {rank = rank} h = leb→le 1 rank (and-yes (leb 1 rank) _ (subst T (sym (h .ranks)) tt) .0)
 
 -- a state whose numbers agree
 pub record Agreed (s : RankScan) : Type 0 where
@@ -80,10 +72,6 @@ stores-bounds l samples counts windows e =
 
 -- an accepted start
 pub record Begins (b : ℕ) (w : Window) (rank l samples counts windows : ℕ) : Type 0 where
-  pub bits : bitsGood b ≡ true
-  pub few : leb b 8 ≡ true
-  pub rect : rectGood (rectOf w) ≡ true
-  pub ranks : rankGood w rank ≡ true
   pub width : widthGood l ≡ true
   pub stores : storesGood l samples counts windows ≡ true
 
@@ -91,5 +79,4 @@ pub begins : (b : ℕ) (w : Window) (rank l samples counts windows : ℕ) → ve
     → Begins b w rank l samples counts windows
 unfolding startAsks
 begins b w rank l samples counts windows e =
-    let y = all-yes (startAsks b w rank l samples counts windows) e in
-    record { bits = y .0; few = y .1 .0; rect = y .1 .1 .0; ranks = y .1 .1 .1 .0; width = y .1 .1 .1 .1 .0; stores = y .1 .1 .1 .1 .1 .0 }
+    let y = all-yes (startAsks b w rank l samples counts windows) e in record { width = y .1 .1 .1 .1 .0; stores = y .1 .1 .1 .1 .1 .0 }

@@ -1,18 +1,17 @@
 -- The stores of a run, from one arrival to the next.
 -- Assumes nothing.
 use Prim.Native.Nat.{ℕ, _+_, _-_, _*_, _%_, _≤_, _<_}
-use native.Mathlib.Nat.{mod-lt, mul-le-mul-right}
 use native.Mathlib.Omega.{arith}
 use mathlib.Core.Path.{_≡_, refl, ap, _∙_}
 use mathlib.Core.Bool.{Bool, true, false, not, cond}
 use mathlib.Core.List.{List, _++_}
 use lib.Dec.{T, ltb, nltb→le}
 use lib.IntN.{ℤ, pos}
-use lib.ListN.{length, getD, take, drop, length-append, length-drop}
-use lib.Seq.{length-take-le}
+use lib.ListN.{length, getD, drop}
 use Rattle.arith.specs.All.{all}
-use Rattle.arith.specs.Tab.{tab, grid, paste}
-use Rattle.arith.proofs.Passes.{length-grid}
+use Rattle.arith.specs.Tab.{tab}
+use Rattle.arith.proofs.Grids.{grid-long}
+use Rattle.arith.proofs.Pastes.{paste-length}
 use Rattle.arith.proofs.Tabs.{tab-cong}
 use Rattle.arith.proofs.Ints.{sub-high}
 use Rattle.layout.specs.declared.Table.{Table}
@@ -21,7 +20,7 @@ use Rattle.limits.specs.Limits.{acceptable}
 use Rattle.rule.specs.Sums.{Image}
 use Rattle.rule.specs.Pixels.{pixelOf}
 use Rattle.arrival.specs.Arrivals.{Arrival, stored, newSum, sumGood, pixelAt, samplesAfter, sumsAfter, outputAfter}
-use Rattle.ring.proofs.Kept.{kept-next}
+use Rattle.ring.proofs.Kept.{kept-next, place-end}
 use Rattle.model.proofs.Rows.{InFrame}
 use Rattle.run.specs.Holds.{Stores}
 use Rattle.run.proofs.Arrives.{Finds, pixel-is, sums-good, sums-next}
@@ -40,25 +39,12 @@ module _ (t : Table) (l : ℕ) (x : Image) (a : ℕ) (row samples sums : List �
     all-good = sums-good x v finds
 
     samples-same : length row ≡ l → length (samplesAfter v) ≡ length samples
-    unfolding samplesAfter paste
-    samples-same n =
-        let b : a % 32 ≤ 31 = let m = mod-lt a {m = 32} in omega arith in
-        let p = mul-le-mul-right l b in
-        let h = st .samples-long in
-        let e = length-take-le (a % 32 * l) samples (omega arith) in
-        let i = length-append (take (a % 32 * l) samples ++ row) (drop (a % 32 * l + length row) samples) in
-        let j = length-append (take (a % 32 * l) samples) row in
-        let k = length-drop (a % 32 * l + length row) samples in
-        omega arith
+    unfolding samplesAfter
+    samples-same n = paste-length (a % 32 * l) row samples (let p = place-end a l in let h = st .samples-long in omega arith)
 
     sums-same : length (sumsAfter v) ≡ length sums
     unfolding sumsAfter
-    sums-same =
-        let h = st .sums-long in
-        let i = length-append (grid (t .count) l (newSum v)) (drop (t .count * l) sums) in
-        let j = length-grid (t .count) l (newSum v) in
-        let k = length-drop (t .count * l) sums in
-        omega arith
+    sums-same = grid-long (t .count) l (newSum v) sums (st .sums-long)
 
     -- the stores before the next arrival
     pub stores-next : length row ≡ l → Stores t l x (a + 1) (samplesAfter v) (sumsAfter v)

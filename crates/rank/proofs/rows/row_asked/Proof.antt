@@ -1,6 +1,6 @@
 -- `rank::row_asked`: the questions of a row before 19, in order; each return is the first no, or that there is none.
 -- Assumes nothing.
-use Rattle.rank.proofs.States.{Agreed, agreed}
+use Rattle.rank.proofs.States.{bits-most, agreed}
 use Rattle.rank.specs.Calls.{agrees, lentGood, rowAsks}
 use Rattle.rule.proofs.Asked.{width-bounds}
 use Rattle.arith.specs.All.{all}
@@ -49,7 +49,7 @@ lent c = yes (c .before .lent-good .ensures) (c .if5 .left)
 
 power-is : (c : tie.After-power) → c .power .result ≡ 2 ^ start (c .before .before .before) .args .s .b
 power-is c =
-    let b = agreed _ (answered (c .before .before .before) .state) .window .bits-most in
+    let b = bits-most (agreed _ (answered (c .before .before .before) .state) .window) in
     c .power .ensures .0 (omega arith)
 
 state-good-requires : tie.Need-state-good-requires
@@ -94,7 +94,7 @@ sub-first-above c = let p = pow-pos (start (c .before .before .before) .args .s 
 
 cast-first-above : tie.Need-cast-first-above
 cast-first-above c = let e = power-is c in
-    let b = agreed _ (answered (c .before .before .before) .state) .window .bits-most in
+    let b = bits-most (agreed _ (answered (c .before .before .before) .state) .window) in
     let p = pow-mono b in search (needs, e, p)
 
 first-above-requires : tie.Need-first-above-requires

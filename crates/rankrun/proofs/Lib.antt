@@ -1,0 +1,7 @@
+mod Tallies
+pub mod Found
+pub mod Shades
+pub mod Arrives
+pub mod Stores
+pub mod Later
+pub mod Sequences

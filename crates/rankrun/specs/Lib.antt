@@ -1,0 +1,4 @@
+pub mod Rule
+pub mod Sequences
+pub mod Holds
+pub mod Words
