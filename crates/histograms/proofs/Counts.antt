@@ -95,13 +95,20 @@ delay-most d e =
     let m = b .row .most in
     omega arith
 
--- an arrival that passes question 19 leaves counts of at most 31
-pub counts-small : (v : Counting) → rectGood (v .what .rect) ≡ true → v .what .b ≤ 8 → T (all (v .what .width) (goodAt v))
-    → (j u : ℕ) → j < v .what .width → u < 2 ^ v .what .b → countAt (countsAfter v) j u ≤ 31
+-- an arrival that passes question 19 leaves counts of at most M
+pub counts-most : (v : Counting) → v .what .b ≤ 8 → T (all (v .what .width) (goodAt v))
+    → (j u : ℕ) → j < v .what .width → u < 2 ^ v .what .b → countAt (countsAfter v) j u ≤ rowsOf (v .what .rect)
 unfolding countsAfter goodAt newCount
-counts-small v e few t j u h i =
+counts-most v few t j u h i =
     let d = v .what .rect in
-    let b = rect-bounds d (subst T (sym e) tt) .rows-most in
     let n = pow-mono few in
     let g = good-column (2 ^ v .what .b) (rowsOf d) (countAt (v .counts) j) _ _ _ _ (all-at (v .what .width) (goodAt v) t j h) .within u i in
-    rw (grid-at (v .what .width) 256 (newCount v) (drop (v .what .width * 256) (v .counts)) 0 j u h (omega arith)) (omega arith)
+    rw (grid-at (v .what .width) 256 (newCount v) (drop (v .what .width * 256) (v .counts)) 0 j u h (omega arith)) g
+
+-- at most 31
+pub counts-small : (v : Counting) → rectGood (v .what .rect) ≡ true → v .what .b ≤ 8 → T (all (v .what .width) (goodAt v))
+    → (j u : ℕ) → j < v .what .width → u < 2 ^ v .what .b → countAt (countsAfter v) j u ≤ 31
+counts-small v e few t j u h i =
+    let b = rect-bounds (v .what .rect) (subst T (sym e) tt) .rows-most in
+    let m = counts-most v few t j u h i in
+    omega arith

@@ -1,3 +1,4 @@
 pub mod Rows
 pub mod Machines
 pub mod Wholes
+pub mod Refusals

@@ -71,12 +71,12 @@ stores-bounds l samples counts windows e =
     (leb→le (32 * l) samples (h .0), leb→le (256 * l) counts (i .0), leb→le 256 windows (i .1))
 
 -- an accepted start
-pub record Begins (b : ℕ) (w : Window) (rank l samples counts windows : ℕ) : Type 0 where
+pub record Begins (l samples counts windows : ℕ) : Type 0 where
   pub width : widthGood l ≡ true
   pub stores : storesGood l samples counts windows ≡ true
 
 pub begins : (b : ℕ) (w : Window) (rank l samples counts windows : ℕ) → verdict (startAsks b w rank l samples counts windows) ≡ Accepted
-    → Begins b w rank l samples counts windows
+    → Begins l samples counts windows
 unfolding startAsks
 begins b w rank l samples counts windows e =
     let y = all-yes (startAsks b w rank l samples counts windows) e in record { width = y .1 .1 .1 .1 .0; stores = y .1 .1 .1 .1 .1 .0 }

@@ -37,7 +37,11 @@ pub fn rank_good(w: Window, rank: u32) -> bool
     ensures { λ g. ⌜ g ≡ rankGood w rank ⌝ }
 {
     let d = rect_of(w);
-    if 1 <= rank { rank <= rows(d) * columns(d) } else { false }
+    if 1 <= rank {
+        rank <= rows(d) * columns(d)
+    } else {
+        false
+    }
 }
 
 // Question 13, on the lengths of the stores.

@@ -223,13 +223,16 @@ module _ (q : Setting) (samples counts windows : List ℕ) (h : Starts q samples
   unfolding startOf startAsks goodRows
   accepts =
       let w = windowed (q .window) (q .b) (q .rank) (h .window) in
-      rw (w .bits, w .few, w .rect, w .ranks, h .width, h .stores) (refl, record {
-        window = h .window;
-        width = h .width;
-        fair = opened-fair (filterOf q);
-        scan = refl;
-        stores = stores-none q (stripOf (q .width) []) samples counts windows refl (bits-most w) (h .stores);
-      })
+      rw (w .bits, w .few, w .rect, w .ranks, h .width, h .stores) (
+        refl,
+        record {
+          window = h .window;
+          width = h .width;
+          fair = opened-fair (filterOf q);
+          scan = refl;
+          stores = stores-none q (stripOf (q .width) []) samples counts windows refl (bits-most w) (h .stores);
+        },
+      )
 
   pub begins : started .said ≡ accepted []
   begins = accepts .0

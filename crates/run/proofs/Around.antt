@@ -14,7 +14,7 @@ use Rattle.arith.specs.All.{all}
 use Rattle.arith.proofs.Bools.{true-of}
 use Rattle.layout.specs.declared.Table.{Table}
 use Rattle.layout.specs.Contents.{Contents}
-use Rattle.layout.specs.Answers.{Said, refused, accepted, Left, left}
+use Rattle.layout.specs.Answers.{refused, accepted, Left, left}
 use Rattle.layout.specs.Sequences.{replies}
 use Rattle.layout.proofs.Questions.{each-way}
 use Rattle.limits.specs.Limits.{acceptable}
@@ -29,10 +29,11 @@ use Rattle.scan.specs.Calls.{World, world, agrees, fresh, startAsks, startOf, r
 use Rattle.burst.specs.Bursts.{withCounts, burstAsks, burstOf}
 use Rattle.model.specs.Rows.{flat, scanned, goodRows}
 use Rattle.model.specs.Machines.{rowCall, closeCall, stepCall, outOf as outOfSingle, opened}
+use Rattle.model.specs.Refusals.{Refuses14}
 use Rattle.model.proofs.Rows.{flat-length, flat-bits}
+use Rattle.model.proofs.Refusals.{refuses}
 use Rattle.run.specs.Holds.{Starts}
 use Rattle.run.specs.Sequences.{filterOf, Call, single, rowsCall, outOf, engine, answers}
-use Rattle.run.specs.Refusals.{Refuses14}
 use Rattle.run.proofs.Sequences.{sequence}
 
 -- ---- files
@@ -76,17 +77,16 @@ pixel-agrees t l rows ok wide h few r c p q =
 
 -- ---- a state that does not agree
 
-refuses : (w : World) (c : Call) (s : Said) → s .kind ≡ 0 → s .number ≡ 14 → engine w c ≡ left s w (outOf c) → Refuses14 w c
-refuses w c s k n e =
-    record { kind = ap (λ x. x .said .kind) e ∙ k; number = ap (λ x. x .said .number) e ∙ n; state = ap (λ x. x .state) e; out = ap (λ x. x .out) e }
+abbrev Refuses : World → Call → Type 0
+Refuses w c = Refuses14 (engine w c) w (outOf c)
 
 -- every call on it is refused with 14, and changes nothing
-pub disagreeing : (w : World) → agrees (w .scan) ≡ false → (c : Call) → Refuses14 w c
+pub disagreeing : (w : World) → agrees (w .scan) ≡ false → (c : Call) → Refuses w c
 unfolding engine outOf outOfSingle rowOf rowAsks burstOf burstAsks closeOf stepOf
-disagreeing w e (single (rowCall row out)) = refuses w (single (rowCall row out)) (refused 14 0) refl refl (rw e refl)
-disagreeing w e (single closeCall) = refuses w (single closeCall) (refused 14 0) refl refl (rw e refl)
-disagreeing w e (single (stepCall out)) = refuses w (single (stepCall out)) (refused 14 0) refl refl (rw e refl)
-disagreeing w e (rowsCall rows out) = refuses w (rowsCall rows out) (withCounts (refused 14 0) 0 0) refl refl (rw e refl)
+disagreeing w e (single (rowCall row out)) = refuses _ (refused 14 0) w out refl refl (rw e refl)
+disagreeing w e (single closeCall) = refuses _ (refused 14 0) w [] refl refl (rw e refl)
+disagreeing w e (single (stepCall out)) = refuses _ (refused 14 0) w out refl refl (rw e refl)
+disagreeing w e (rowsCall rows out) = refuses _ (withCounts (refused 14 0) 0 0) w out refl refl (rw e refl)
 
 no-width : (t : Table) → agrees (fresh t 0) ≡ false
 unfolding agrees widthGood
@@ -98,10 +98,10 @@ no-width t = go (acceptable t)
 
 -- J4: the scan of a refused start
 pub refused-start : (t : Table) (l : ℕ) (samples sums : List ℕ) (n p : ℕ) → startOf t l samples sums .said ≡ refused n p
-    → (c : Call) → Refuses14 (startOf t l samples sums .state) c
+    → (c : Call) → Refuses (startOf t l samples sums .state) c
 unfolding startOf
 refused-start t l samples sums n p =
-    each-way (λ (x : Left World). x .said ≡ refused n p → (c : Call) → Refuses14 (x .state) c) (startAsks t l (length samples) (length sums)) _ _
+    each-way (λ (x : Left World). x .said ≡ refused n p → (c : Call) → Refuses (x .state) c) (startAsks t l (length samples) (length sums)) _ _
     (λ i j e. disagreeing (world (fresh t 0) samples sums) (no-width t))
     (λ y e c. absurd (let z : _≡_ {A = ℕ} 1 0 = ap (λ s. s .kind) e in omega arith))
 
@@ -111,6 +111,6 @@ pub refused-load : (bs : List ℕ) (n p : ℕ) → loadOf bs ≡ noTable n p →
 unfolding startOf startAsks
 refused-load bs n p e l samples sums = rw (refused-table bs n p e .0) refl
 
-pub refused-load-scan : (bs : List ℕ) (n p : ℕ) → loadOf bs ≡ noTable n p → (w : World) → w .scan .table ≡ tableFrom (loadOf bs) → (c : Call) → Refuses14 w c
+pub refused-load-scan : (bs : List ℕ) (n p : ℕ) → loadOf bs ≡ noTable n p → (w : World) → w .scan .table ≡ tableFrom (loadOf bs) → (c : Call) → Refuses w c
 unfolding agrees
 refused-load-scan bs n p e w f = disagreeing w (rw (f, refused-table bs n p e .0) refl)

@@ -22,7 +22,7 @@ asks s =
     startAsks (s .args .b) (s .args .window) (s .args .rank) (s .args .width) (length (s .args .samples .now)) (length (s .args .counts .now)) (length (s .args .windows .now))
 
 begun-all : (c : tie.After-enum-told2)
-    → Begins (start c .args .b) (start c .args .window) (start c .args .rank) (start c .args .width) (length (start c .args .samples .now)) (length (start c .args .counts .now)) (length (start c .args .windows .now))
+    → Begins (start c .args .width) (length (start c .args .samples .now)) (length (start c .args .counts .now)) (length (start c .args .windows .now))
 begun-all c = begins _ _ _ _ _ _ _ (sym (c .before .before .start-asked .ensures) ∙ c .enum-told2 .given .1)
 
 roomy : (c : tie.After-enum-told2)
