@@ -1,11 +1,16 @@
 // The library for C: each call of the header include/strip.h, over the proved call that does the work.
 mod bursts;
 mod pixels;
+mod ranks;
 mod scans;
 mod tables;
 
 pub use bursts::strip_scan_rows;
 pub use pixels::strip_pixel;
+pub use ranks::strip_rank_close;
+pub use ranks::strip_rank_row;
+pub use ranks::strip_rank_start;
+pub use ranks::strip_rank_step;
 pub use scans::strip_scan_close;
 pub use scans::strip_scan_row;
 pub use scans::strip_scan_start;
