@@ -4,7 +4,7 @@
 # make examples  the header compiled as C and C++, the C example run
 # make outside   the library, through its C interface, beside a filter written separately from the papers
 # make programs  stripfilter and listing as a user meets them: options, faults, input in pieces, beside a filter in Python
-# make bench     the engine's speed beside C loops, and the program's beside the engine
+# make bench     the speed of the engine and of the ranked window beside C loops, and the program's beside the engine
 # make scan      makes the strip under scans/ again
 # make edits CRATE=name   tries one crate's must-fail edits: where each is refused, and whether that is at a fact
 # make tidy      names in docs/PROMISES.md that do not exist, definitions that nothing uses

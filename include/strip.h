@@ -5,6 +5,9 @@
  * scan yields one pixel: the weighted sum of the samples under the rectangles, shifted right by t and rounded downwards. Samples outside
  * the scan count as zero, and a dead sample as the nearest live one to its left in its row.
  *
+ * Beside it stands the ranked window: one rectangle with a rank and no weight. Each place of the scan yields one level, the rank-th
+ * smallest of the samples under the window. There, samples outside the scan are not counted; a dead sample counts as in the filter.
+ *
  * Link with build/libstrip.a; it needs memcpy and memset and nothing else, allocates nothing and keeps nothing between calls.
  *
  * What holds of every call:
@@ -31,12 +34,13 @@ extern "C" {
 
 /* Limits and sizes. */
 #define STRIP_RECTS 16               /* rectangles of a table, 1 to 16 */
-#define STRIP_BITS_MOST 12           /* bits b of a sample, 1 to 12 */
+#define STRIP_BITS_MOST 12           /* bits b of a sample, 1 to 12; of a ranked scan 1 to 8 */
 #define STRIP_WIDTH_MOST 1024        /* samples of a row, 1 to 1,024 */
 #define STRIP_ROWS_MOST 65535        /* rows of a scan, 0 to 65,535 */
 #define STRIP_DELAY_MOST 15          /* rows that a filtered row can be late, 0 to 15 */
 #define STRIP_KEPT_ROWS 32           /* rows in the sample store */
 #define STRIP_FILE_MOST 153          /* bytes of a table file: 9 + 9 * STRIP_RECTS */
+#define STRIP_LEVELS 256             /* counts of a column, and of the window, in the stores of a ranked scan */
 
 /* A sample that says: this element of the sensor failed. It counts as the nearest live sample to its left in its row, or as zero where
    there is none. */
@@ -47,11 +51,18 @@ extern "C" {
 #define STRIP_SAMPLES(width) (STRIP_KEPT_ROWS * (size_t)(width))
 #define STRIP_SUMS(rects, width) ((size_t)(rects) * (size_t)(width))
 
+/* Elements that a ranked scan of rows of `width` samples needs in its column counts. Its sample store needs STRIP_SAMPLES(width), its
+   window counts STRIP_LEVELS and its output `width`. */
+#define STRIP_COUNTS(width) (STRIP_LEVELS * (size_t)(width))
+
+/* The level of a place with no sample of the scan under the window. */
+#define STRIP_EMPTY (-1)
+
 /* The refusals. */
 typedef enum {
     STRIP_OK = 0,              /* accepted: no refusal */
 
-    /* loading a table file */
+    /* loading a table file; 3 and 8 are asked of a ranked window too */
     STRIP_NO_HEADER = 1,       /* the file does not begin with 01 00 06 */
     STRIP_CUT_OFF = 2,         /* a field's contents are not all present */
     STRIP_BITS = 3,            /* b is not from 1 to 12 */
@@ -74,17 +85,22 @@ typedef enum {
     STRIP_FULL = 16,           /* 65,535 rows are in */
     STRIP_LENGTH = 17,         /* the row has not `width` samples; of strip_pixel: the length is not width times 1 to 65,535 */
     STRIP_SAMPLE = 18,         /* a sample is above 2^b - 1 and not STRIP_DEAD; place: the lowest index of one */
-    STRIP_SUM = 19,            /* a column sum that cannot be: a store was altered between calls; place: the lowest rectangle, from 0 */
+    STRIP_SUM = 19,            /* a column sum that cannot be: a store was altered between calls; place: the lowest rectangle, from 0; of a
+                                  ranked scan: a kept sample or a column count that cannot be; place: 0 */
     STRIP_OUTSIDE = 20,        /* row or column outside the scan */
-    STRIP_NOT_ROWS = 21        /* the samples handed over together are not whole rows: their number is no multiple of `width` */
+    STRIP_NOT_ROWS = 21,       /* the samples handed over together are not whole rows: their number is no multiple of `width` */
+
+    /* ranked windows */
+    STRIP_RANK = 22,           /* the rank is 0 or above the number of samples that the window covers */
+    STRIP_RANK_BITS = 23       /* b is above 8 */
 } strip_refusal;
 
 /* The kinds of an answer. */
 typedef enum {
     STRIP_REFUSED = 0,         /* refused: `number` and `place` say why */
-    STRIP_ROW = 1,             /* a filtered row is in the output: `number` is its row number */
-    STRIP_WAITING = 2,         /* taken in, and no filtered row is due yet: `number` is 0 */
-    STRIP_DONE = 3             /* all filtered rows are out (closing steps only): `number` is 0 */
+    STRIP_ROW = 1,             /* a filtered or ranked row is in the output: `number` is its row number */
+    STRIP_WAITING = 2,         /* taken in, and no filtered or ranked row is due yet: `number` is 0 */
+    STRIP_DONE = 3             /* all filtered or ranked rows are out (closing steps only): `number` is 0 */
 } strip_kind;
 
 /* ---- tables ---- */
@@ -189,6 +205,73 @@ typedef struct {
    counts as said at STRIP_DEAD, also where the live one lies left of the rectangle. value: the pixel, the same that the scan calls
    give; refused, 0. */
 strip_pixel_answer strip_pixel(strip_table table, size_t width, const uint16_t *samples, size_t n, size_t r, size_t c);
+
+/* ---- ranked windows ---- */
+
+/* A window. For the place at row r, column c it covers rows r + trailrow + 1 to r + leadrow and columns c + trailcol + 1 to c + leadcol:
+   M = leadrow - trailrow rows and N = leadcol - trailcol columns. */
+typedef struct {
+    int8_t leadrow, leadcol, trailrow, trailcol;
+} strip_window;
+
+/* A ranked scan: its window, b bits a sample, its rank and width, the rows that are in, the closing steps done, and whether it is closed.
+   It is a value, 40 bytes where size_t has 8: hand each call the one that the last call handed out. Its numbers agree (14) where b is
+   from 1 to 8, the window is one that 8 lets pass, rank is from 1 to M * N, width from 1 to 1,024, rows at most 65,535 and steps at most
+   D, and there are no steps while it is open. D is leadrow, or 0 where leadrow is negative.
+
+   Levels are 0 to 2^b - 1. The level at a place is the smallest one such that at least `rank` of the covered samples inside the scan are
+   not above it; where fewer than `rank` are inside, the largest of them; where none is, STRIP_EMPTY. A sample outside the scan, above,
+   below or beside it, is not counted: it is not zero here. A dead sample counts as said at STRIP_DEAD.
+
+   Three stores go with it, which are the caller's too; between two calls of a scan nobody writes to them:
+     samples   32 * width. Arrival a, a row or the zeros of a closing step, is kept from (a mod 32) * width on.
+     counts    256 * width. At 256 * c + v stands how many samples of level v column c has in the rows of the scan that the window covers.
+               Places of levels from 2^b on are neither read nor written after the start.
+     windows   256. Zero after every accepted row and closing step, also while waiting; what they held before does not matter. */
+typedef struct {
+    strip_window window;
+    uint8_t b;
+    uint32_t rank;
+    size_t width;
+    uint32_t rows, steps;
+    bool closed;
+} strip_rank;
+
+typedef struct {
+    uint32_t refusal, place;
+    strip_rank scan;
+} strip_rank_started;
+
+/* Starts a ranked scan of rows of `width` samples. Asks 3, 23, 8, 22, 12, 13 (n below 32 * width, m below 256 * width or p below 256).
+   Accepted, it sets the first 32 * width samples, 256 * width column counts and 256 window counts to zero and touches nothing beyond.
+   Refused, the scan handed out has window, b and rank as given, width 0, rows 0, steps 0 and closed false, and every call refuses it
+   with 14. */
+strip_rank_started strip_rank_start(uint8_t b, strip_window window, uint32_t rank, size_t width, uint16_t *samples, size_t n, uint16_t *counts, size_t m, uint16_t *windows, size_t p);
+
+/* Closes a ranked scan: no row follows, and closing steps fetch the ranked rows still due. Asks 14, 15. */
+strip_rank_started strip_rank_close(strip_rank scan);
+
+typedef struct {
+    uint32_t kind, number, place;   /* kind: a strip_kind */
+    strip_rank scan;
+} strip_rank_answer;
+
+/* Takes in a row of k samples. Asks 14, 15, 16, 17 (k is not width), 13 (a store as at the start, or o below width), 18, 19. Row r comes
+   out with the arrival of row r + D: kind is STRIP_ROW with number r, and the first `width` elements of out hold its levels. Until then
+   kind is STRIP_WAITING and out is not touched. A dead sample counts as said at STRIP_DEAD, and so the sample store keeps it. scan: the
+   scan with one row more.
+
+   Arrival a, rows and closing steps counted from 0, moves the counts of each column: row a - D + trailrow leaves and row a - D + leadrow
+   enters. A row below 0 and a closing row are passed over: they count nothing, and nobody looks at their samples. Question 19 asks of
+   each column that the leaving and the entering sample be levels, where a 65,535 that somebody wrote into the store is none; that the
+   count of the leaving level be above zero, before the entering one is counted; and, also where both rows are passed over, that no level
+   have a count above M afterwards. The levels of the row come from the counts after the move, whatever was written into the stores. */
+strip_rank_answer strip_rank_row(strip_rank scan, const uint16_t *row, size_t k, uint16_t *samples, size_t n, uint16_t *counts, size_t m, uint16_t *windows, size_t p, int32_t *out, size_t o);
+
+/* A closing step, after strip_rank_close: as a row of zeros that are kept and not counted. Asks 14, 15 (the scan is not closed); where D
+   steps are past kind is STRIP_DONE and nothing changes, the window counts included; then 13, 19. Call it until STRIP_DONE: a scan of H
+   rows has then given H ranked rows. scan: the scan with one step more. */
+strip_rank_answer strip_rank_step(strip_rank scan, uint16_t *samples, size_t n, uint16_t *counts, size_t m, uint16_t *windows, size_t p, int32_t *out, size_t o);
 
 #ifdef __cplusplus
 }

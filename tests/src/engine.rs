@@ -2,7 +2,7 @@
 
 use crate::ffi::{Answer, Burst, Rect, Scan, Started, Table, DONE, REFUSED, ROW, WAITING};
 use crate::pixel::{first_above, last_live, width_good, DEAD, MOST_ROWS};
-use crate::table::{accepted, delay, rects, rows};
+use crate::table::{accepted, delay, largest_sample, rects, rows};
 
 /// Rows that the sample store keeps.
 pub const KEPT: usize = 32;
@@ -16,7 +16,7 @@ pub enum Arrival<'a> {
 
 impl Arrival<'_> {
     /// The sample of a column, mended.
-    fn at(&self, column: usize) -> u16 {
+    pub fn at(&self, column: usize) -> u16 {
         match self {
             Arrival::Row(row) => last_live(&row[..=column]),
             Arrival::Zeros => 0,
@@ -265,7 +265,7 @@ pub fn row(
     if !stores_good(&scan.table, scan.width, samples, sums) || out.len() < scan.width {
         return refused(scan, 13, 0);
     }
-    if let Some(column) = first_above(&scan.table, row) {
+    if let Some(column) = first_above(largest_sample(&scan.table), row) {
         return refused(scan, 18, column);
     }
     arrive(scan, Arrival::Row(row), samples, sums, out)

@@ -36,6 +36,32 @@ pub struct Scan {
     pub closed: bool,
 }
 
+/// The window of a ranked scan.
+#[repr(C)]
+#[derive(Clone, Copy, Debug, Default, PartialEq, Eq)]
+pub struct Window {
+    pub leadrow: i8,
+    pub leadcol: i8,
+    pub trailrow: i8,
+    pub trailcol: i8,
+}
+
+/// A ranked scan.
+#[repr(C)]
+#[derive(Clone, Copy, Debug, Default, PartialEq, Eq)]
+pub struct Rank {
+    pub window: Window,
+    pub b: u8,
+    pub rank: u32,
+    pub width: usize,
+    pub rows: u32,
+    pub steps: u32,
+    pub closed: bool,
+}
+
+/// The header says its size.
+const _: () = assert!(size_of::<Rank>() == 40);
+
 #[repr(C)]
 #[derive(Clone, Copy, Debug, PartialEq, Eq)]
 pub struct Loaded {
@@ -52,12 +78,13 @@ pub struct Written {
     pub length: usize,
 }
 
+/// What starting and closing answer, of a scan or of a ranked scan.
 #[repr(C)]
 #[derive(Clone, Copy, Debug, PartialEq, Eq)]
-pub struct Started {
+pub struct Started<S = Scan> {
     pub refusal: u32,
     pub place: u32,
-    pub scan: Scan,
+    pub scan: S,
 }
 
 /// What `kind` of an answer may be.
@@ -66,13 +93,14 @@ pub const ROW: u32 = 1;
 pub const WAITING: u32 = 2;
 pub const DONE: u32 = 3;
 
+/// What a row and a closing step answer, of a scan or of a ranked scan.
 #[repr(C)]
 #[derive(Clone, Copy, Debug, PartialEq, Eq)]
-pub struct Answer {
+pub struct Answer<S = Scan> {
     pub kind: u32,
     pub number: u32,
     pub place: u32,
-    pub scan: Scan,
+    pub scan: S,
 }
 
 #[repr(C)]
@@ -145,6 +173,43 @@ extern "C" {
         r: usize,
         c: usize,
     ) -> PixelAnswer;
+    fn strip_rank_start(
+        b: u8,
+        window: Window,
+        rank: u32,
+        width: usize,
+        samples: *mut u16,
+        n: usize,
+        counts: *mut u16,
+        m: usize,
+        windows: *mut u16,
+        p: usize,
+    ) -> Started<Rank>;
+    fn strip_rank_close(scan: Rank) -> Started<Rank>;
+    fn strip_rank_row(
+        scan: Rank,
+        row: *const u16,
+        k: usize,
+        samples: *mut u16,
+        n: usize,
+        counts: *mut u16,
+        m: usize,
+        windows: *mut u16,
+        p: usize,
+        out: *mut i32,
+        o: usize,
+    ) -> Answer<Rank>;
+    fn strip_rank_step(
+        scan: Rank,
+        samples: *mut u16,
+        n: usize,
+        counts: *mut u16,
+        m: usize,
+        windows: *mut u16,
+        p: usize,
+        out: *mut i32,
+        o: usize,
+    ) -> Answer<Rank>;
 }
 
 // Each call below lends slices for its own length of time, which is all that the C functions ask. An empty one is lent as
@@ -257,4 +322,72 @@ pub fn scan_step(scan: &Scan, samples: &mut [u16], sums: &mut [u32], out: &mut [
 
 pub fn pixel(table: &Table, width: usize, samples: &[u16], r: usize, c: usize) -> PixelAnswer {
     unsafe { strip_pixel(*table, width, lent(samples), samples.len(), r, c) }
+}
+
+/// The three stores of a ranked scan, as they are lent to a call.
+pub struct Counting<'a> {
+    pub samples: &'a mut [u16],
+    pub counts: &'a mut [u16],
+    pub windows: &'a mut [u16],
+}
+
+pub fn rank_start(
+    b: u8,
+    window: Window,
+    rank: u32,
+    width: usize,
+    stores: Counting,
+) -> Started<Rank> {
+    unsafe {
+        strip_rank_start(
+            b,
+            window,
+            rank,
+            width,
+            lent_mut(stores.samples),
+            stores.samples.len(),
+            lent_mut(stores.counts),
+            stores.counts.len(),
+            lent_mut(stores.windows),
+            stores.windows.len(),
+        )
+    }
+}
+
+pub fn rank_close(scan: &Rank) -> Started<Rank> {
+    unsafe { strip_rank_close(*scan) }
+}
+
+pub fn rank_row(scan: &Rank, row: &[u16], stores: Counting, out: &mut [i32]) -> Answer<Rank> {
+    unsafe {
+        strip_rank_row(
+            *scan,
+            lent(row),
+            row.len(),
+            lent_mut(stores.samples),
+            stores.samples.len(),
+            lent_mut(stores.counts),
+            stores.counts.len(),
+            lent_mut(stores.windows),
+            stores.windows.len(),
+            lent_mut(out),
+            out.len(),
+        )
+    }
+}
+
+pub fn rank_step(scan: &Rank, stores: Counting, out: &mut [i32]) -> Answer<Rank> {
+    unsafe {
+        strip_rank_step(
+            *scan,
+            lent_mut(stores.samples),
+            stores.samples.len(),
+            lent_mut(stores.counts),
+            stores.counts.len(),
+            lent_mut(stores.windows),
+            stores.windows.len(),
+            lent_mut(out),
+            out.len(),
+        )
+    }
 }

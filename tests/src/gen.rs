@@ -1,7 +1,8 @@
-//! Random tables, rows and files.
+//! Random tables, windows and rows.
 
-use crate::ffi::{Rect, Table};
+use crate::ffi::{Rank, Rect, Table, Window};
 use crate::pixel::DEAD;
+use crate::rank;
 use crate::rng::Rng;
 use crate::table::{self, columns, extremes, fits, rows};
 
@@ -188,7 +189,12 @@ fn narrow_table(rng: &mut Rng) -> Table {
 
 /// A row of samples that the table takes, now and then with dead elements.
 pub fn row(rng: &mut Rng, table: &Table, width: usize) -> Vec<u16> {
-    let mut row = live_row(rng, table, width);
+    row_up_to(rng, table::largest_sample(table), width)
+}
+
+/// The same of samples up to a largest one.
+pub fn row_up_to(rng: &mut Rng, largest: u16, width: usize) -> Vec<u16> {
+    let mut row = live_row(rng, largest, width);
     match rng.below(12) {
         0 => row.fill(DEAD),
         1 => row[0] = DEAD,
@@ -210,8 +216,8 @@ pub fn row(rng: &mut Rng, table: &Table, width: usize) -> Vec<u16> {
     row
 }
 
-fn live_row(rng: &mut Rng, table: &Table, width: usize) -> Vec<u16> {
-    let largest = i64::from(table::largest_sample(table));
+fn live_row(rng: &mut Rng, largest: u16, width: usize) -> Vec<u16> {
+    let largest = i64::from(largest);
     let style = rng.below(6);
     let level = rng.range(0, largest);
     (0..width)
@@ -231,4 +237,79 @@ fn live_row(rng: &mut Rng, table: &Table, width: usize) -> Vec<u16> {
 pub fn area(table: &Table) -> usize {
     let of = |rect: &Rect| (rows(rect) * columns(rect)) as usize;
     table::rects(table).iter().map(of).sum()
+}
+
+/// A window within the limits.
+pub fn window(rng: &mut Rng) -> Window {
+    let Rect {
+        leadrow,
+        leadcol,
+        trailrow,
+        trailcol,
+        ..
+    } = rect(rng);
+    Window {
+        leadrow,
+        leadcol,
+        trailrow,
+        trailcol,
+    }
+}
+
+/// A window with one edge past a limit.
+pub fn bad_window(rng: &mut Rng) -> Window {
+    let mut bad = window(rng);
+    match rng.below(4) {
+        0 => bad.leadrow = rng.pick(&[16, 127, -16, -128, bad.trailrow]),
+        1 => bad.leadcol = rng.pick(&[16, 127, -16, -128, bad.trailcol]),
+        2 => bad.trailrow = rng.pick(&[-17, -128, 15, 127, bad.leadrow]),
+        _ => bad.trailcol = rng.pick(&[-17, -128, 15, 127, bad.leadcol]),
+    }
+    bad
+}
+
+/// A rank from 1 to M times N, often the first, the last or the middle one.
+pub fn rank(rng: &mut Rng, window: &Window) -> u32 {
+    let most = rank::rows(window) * rank::columns(window);
+    let rank = match rng.below(6) {
+        0 => 1,
+        1 => most,
+        2 => (most + 1) / 2,
+        3 => rng.range(1, most.min(9)),
+        _ => rng.range(1, most),
+    };
+    rank as u32
+}
+
+/// A ranked scan of rows of `width` samples, before its first row.
+pub fn ranked(rng: &mut Rng, width: usize) -> Rank {
+    let window = window(rng);
+    Rank {
+        window,
+        b: rng.range(1, i64::from(rank::MOST_BITS)) as u8,
+        rank: rank(rng, &window),
+        width,
+        ..Rank::default()
+    }
+}
+
+/// A row for a ranked scan.
+pub fn ranked_row(rng: &mut Rng, scan: &Rank) -> Vec<u16> {
+    row_up_to(rng, table::largest_of(scan.b), scan.width)
+}
+
+/// Rows for a ranked scan: any, or all of one level but for a few specks.
+pub fn ranked_rows(rng: &mut Rng, scan: &Rank, height: usize) -> Vec<Vec<u16>> {
+    if !rng.one_in(4) {
+        return (0..height).map(|_| ranked_row(rng, scan)).collect();
+    }
+    let largest = usize::from(table::largest_of(scan.b));
+    let level = rng.below(largest + 1) as u16;
+    let mut sample = || match rng.below(40) {
+        0 => DEAD,
+        1 | 2 => rng.below(largest + 1) as u16,
+        _ => level,
+    };
+    let mut row = || (0..scan.width).map(|_| sample()).collect();
+    (0..height).map(|_| row()).collect()
 }

@@ -7,6 +7,7 @@ mod engine;
 mod ffi;
 mod gen;
 mod pixel;
+mod rank;
 mod rng;
 mod table;
 mod tally;
@@ -111,7 +112,7 @@ fn main() -> ExitCode {
         }
     }
     for (kind, times) in KINDS.iter().zip(&ran) {
-        println!("{:<29} {times} cases", kind.name);
+        println!("{:<37} {times} cases", kind.name);
     }
     let ran: u64 = ran.iter().sum();
     println!("outside tests: {ran} cases, {failed} failed");

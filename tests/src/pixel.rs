@@ -78,9 +78,8 @@ impl Strip<'_> {
     }
 }
 
-/// The lowest index of a live sample above 2^b - 1.
-pub fn first_above(table: &Table, samples: &[u16]) -> Option<u32> {
-    let largest = largest_sample(table);
+/// The lowest index of a live sample above the largest of b bits.
+pub fn first_above(largest: u16, samples: &[u16]) -> Option<u32> {
     let index = samples.iter().position(|&s| s != DEAD && s > largest);
     index.map(|i| i as u32)
 }
@@ -109,7 +108,7 @@ pub fn answer(table: &Table, width: usize, samples: &[u16], r: usize, c: usize) 
     if r >= height || c >= width {
         return refused(20, 0);
     }
-    if let Some(index) = first_above(table, samples) {
+    if let Some(index) = first_above(largest_sample(table), samples) {
         return refused(18, index);
     }
     let value = Strip { width, samples }.pixel(table, r, c);

@@ -27,9 +27,13 @@ pub fn delay(table: &Table) -> u32 {
     largest.unwrap_or(0).max(0) as u32
 }
 
-/// The largest sample, 2^b - 1.
+/// The largest sample of b bits, 2^b - 1.
+pub fn largest_of(b: u8) -> u16 {
+    ((1u32 << b) - 1) as u16
+}
+
 pub fn largest_sample(table: &Table) -> u16 {
-    ((1u32 << table.b) - 1) as u16
+    largest_of(table.b)
 }
 
 /// Questions 3, 4 and 5.
@@ -46,12 +50,14 @@ fn head_question(table: &Table) -> Result<(), u32> {
     Ok(())
 }
 
+/// Question 8, of rows or of columns.
+pub fn edges_good(lead: i8, trail: i8) -> bool {
+    (-15..=15).contains(&lead) && (-16..=14).contains(&trail) && trail < lead
+}
+
 /// Question 8.
-fn edges_good(rect: &Rect) -> bool {
-    let good = |lead: i8, trail: i8| {
-        (-15..=15).contains(&lead) && (-16..=14).contains(&trail) && trail < lead
-    };
-    good(rect.leadrow, rect.trailrow) && good(rect.leadcol, rect.trailcol)
+fn rect_good(rect: &Rect) -> bool {
+    edges_good(rect.leadrow, rect.trailrow) && edges_good(rect.leadcol, rect.trailcol)
 }
 
 /// The two values of question 10: over negative and over positive weights, shifted and rounded down.
@@ -90,7 +96,7 @@ fn extremes_good(table: &Table) -> bool {
 pub fn accepted(table: &Table) -> bool {
     (1..=MOST_RECTS).contains(&table.count)
         && head_question(table).is_ok()
-        && rects(table).iter().all(edges_good)
+        && rects(table).iter().all(rect_good)
         && extremes_good(table)
 }
 
@@ -135,7 +141,7 @@ pub fn load(bytes: &[u8]) -> Result<Table, u32> {
             return Err(6);
         }
         let rect = rect_of(field(bytes, at, 2, 7)?);
-        if !edges_good(&rect) {
+        if !rect_good(&rect) {
             return Err(8);
         }
         table.rects[table.count] = rect;

@@ -1,13 +1,13 @@
 //! What the cases met: how often each call answered each number, and which situations came up.
 
 use std::collections::BTreeMap;
-use std::fmt::Debug;
+use std::fmt::{Debug, Display};
 
 /// A case ends well, or with what was wrong.
 pub type Outcome = Result<(), String>;
 
 /// The numbers that each call can answer, 0 being acceptance; every one has to be met.
-const NUMBERS: [(&str, &[u32]); 9] = [
+const NUMBERS: [(&str, &[u32]); 13] = [
     ("check", &[0, 1, 2, 3, 4, 5, 6, 7, 8, 9, 10]),
     ("load", &[0, 1, 2, 3, 4, 5, 6, 7, 8, 9, 10]),
     ("write", &[0, 11, 13]),
@@ -17,10 +17,17 @@ const NUMBERS: [(&str, &[u32]); 9] = [
     ("close", &[0, 14, 15]),
     ("step", &[0, 14, 15, 13, 19]),
     ("pixel", &[0, 11, 12, 17, 20, 18]),
+    ("rank start", &[0, 3, 23, 8, 22, 12, 13]),
+    ("rank row", &[0, 14, 15, 16, 17, 13, 18, 19]),
+    ("rank close", &[0, 14, 15]),
+    ("rank step", &[0, 14, 15, 13, 19]),
 ];
 
+/// The last refusal that the papers have.
+const LAST: u32 = 23;
+
 /// Situations that have to come up.
-const SIGHTS: [&str; 44] = [
+const SIGHTS: &[&str] = &[
     "10 just passed",
     "10 just missed",
     "sixteen rectangles loaded",
@@ -65,6 +72,44 @@ const SIGHTS: [&str; 44] = [
     "dead before the rectangle",
     "65,535 in the store",
     "burst with dead across rows",
+    "ranked: R or more inside",
+    "ranked: fewer than R inside",
+    "ranked: none inside",
+    "ranked: closing row leaves",
+    "ranked: same level leaves and enters",
+    "ranked: count at M",
+    "ranked: count M + 1 leaves",
+    "ranked: dirty windows",
+    "ranked: counts above 2^b kept",
+    "ranked: 19 with both rows passed over",
+    "ranked: 19 at the last column",
+    "ranked: 19, same level at count 0",
+    "ranked: 19, 65535 and one more",
+    "ranked: 19, 65535 kept",
+    "ranked: 19, 2^b kept",
+    "ranked: altered, no 19",
+    "ranked: total past 16 bits",
+    "ranked: all ranks of a window",
+    "ranked: every place by sorting",
+    "ranked: dead element",
+    "ranked: old state again",
+    "ranked: arrival past 65535",
+    "ranked: 65535 rows given",
+    "ranked: window left of the pixel",
+    "ranked: window right of the pixel",
+    "ranked: window above the pixel",
+    "ranked: window below the pixel",
+    "ranked: width 1",
+    "ranked: width 1024",
+    "ranked: no rows",
+    "ranked: fewer rows than D",
+    "ranked: ring gone round",
+    "ranked: refused in the middle",
+    "ranked: refused start before",
+    "ranked: another scan before",
+    "ranked: 13 while waiting",
+    "ranked: done",
+    "ranked: done with short stores",
 ];
 
 #[derive(Default)]
@@ -72,6 +117,9 @@ pub struct Tally {
     numbers: BTreeMap<(&'static str, u32), u64>,
     sights: BTreeMap<&'static str, u64>,
     delays: BTreeMap<u32, u64>,
+    /// Of whole ranked scans: how many of each delay, and of each b.
+    ranked: BTreeMap<u32, u64>,
+    bits: BTreeMap<u8, u64>,
 }
 
 impl Tally {
@@ -94,6 +142,12 @@ impl Tally {
         *self.delays.entry(d).or_default() += 1;
     }
 
+    /// A ranked scan with delay D and samples of b bits was run to its end.
+    pub fn ran_ranked(&mut self, d: u32, b: u8) {
+        *self.ranked.entry(d).or_default() += 1;
+        *self.bits.entry(b).or_default() += 1;
+    }
+
     /// How often a refusal was met over all calls.
     fn met(&self, number: u32) -> u64 {
         let of_number = self.numbers.iter().filter(|((_, n), _)| *n == number);
@@ -107,19 +161,18 @@ impl Tally {
                 .iter()
                 .map(|n| format!("{n}: {}", times(n)))
                 .collect();
-            println!("{call:<6} answered {}", list.join(", "));
+            println!("{call:<10} answered {}", list.join(", "));
         }
-        let list: Vec<String> = (1..=21).map(|n| format!("{n}: {}", self.met(n))).collect();
+        let list: Vec<String> = (1..=LAST)
+            .map(|n| format!("{n}: {}", self.met(n)))
+            .collect();
         println!("refusals {}", list.join(", "));
         for (what, times) in &self.sights {
-            println!("{what:<29} {times}");
+            println!("{what:<37} {times}");
         }
-        let list: Vec<String> = self
-            .delays
-            .iter()
-            .map(|(d, n)| format!("{d}: {n}"))
-            .collect();
-        println!("whole scans by delay {}", list.join(", "));
+        println!("whole scans by delay {}", listed(&self.delays));
+        println!("whole ranked scans by delay {}", listed(&self.ranked));
+        println!("whole ranked scans by b {}", listed(&self.bits));
     }
 
     /// What should have been met and was not.
@@ -131,14 +184,23 @@ impl Tally {
                 .filter(|n| !self.numbers.contains_key(&(call, **n)));
             list.extend(absent.map(|n| format!("{call} never answered {n}")));
         }
-        let absent = (1..=21).filter(|n| self.met(*n) == 0);
+        let absent = (1..=LAST).filter(|n| self.met(*n) == 0);
         list.extend(absent.map(|n| format!("refusal {n} never met")));
         let absent = SIGHTS.iter().filter(|s| !self.sights.contains_key(*s));
         list.extend(absent.map(|s| format!("never came up: {s}")));
         let absent = (0..=15).filter(|d| !self.delays.contains_key(d));
         list.extend(absent.map(|d| format!("no whole scan with delay {d}")));
+        let absent = (0..=15).filter(|d| !self.ranked.contains_key(d));
+        list.extend(absent.map(|d| format!("no whole ranked scan with delay {d}")));
+        let absent = (1..=8).filter(|b| !self.bits.contains_key(b));
+        list.extend(absent.map(|b| format!("no whole ranked scan with b = {b}")));
         list
     }
+}
+
+fn listed<K: Display>(times: &BTreeMap<K, u64>) -> String {
+    let list: Vec<String> = times.iter().map(|(k, n)| format!("{k}: {n}")).collect();
+    list.join(", ")
 }
 
 /// The library's answer has to be the papers'.

@@ -1,5 +1,7 @@
 //! Two equal sets of stores: the library works on one, the papers' engine on the other, and they stay equal.
 
+pub mod ranked;
+
 use std::fmt::Debug;
 
 use crate::engine::{self, KEPT};
@@ -31,8 +33,17 @@ impl<T: Copy + PartialEq + Debug> Lent<T> {
         self.all.len() - 2 * MARGIN
     }
 
+    /// Lends so many places from now on, or all there are if they are fewer.
+    fn lend(&mut self, places: usize) {
+        self.given = places.min(self.room());
+    }
+
     fn part(&mut self) -> &mut [T] {
         &mut self.all[MARGIN..MARGIN + self.given]
+    }
+
+    fn read(&self) -> &[T] {
+        &self.all[MARGIN..MARGIN + self.given]
     }
 
     fn place(&mut self, index: usize) -> &mut T {
@@ -55,6 +66,76 @@ impl<T: Copy + PartialEq + Debug> Lent<T> {
     }
 }
 
+/// The stores and the output of one side.
+pub trait Stores: Clone {
+    fn compare(&self, papers: &Self) -> Outcome;
+}
+
+/// The stores of both sides.
+pub struct Twins<'a, W> {
+    pub tally: &'a mut Tally,
+    library: W,
+    papers: W,
+}
+
+impl<'a, W: Stores> Twins<'a, W> {
+    fn of(tally: &'a mut Tally, world: W) -> Twins<'a, W> {
+        Twins {
+            tally,
+            library: world.clone(),
+            papers: world,
+        }
+    }
+
+    /// A copy of the stores, to be put back later.
+    pub fn keep(&self) -> W {
+        self.papers.clone()
+    }
+
+    pub fn put_back(&mut self, world: &W) {
+        self.library = world.clone();
+        self.papers = world.clone();
+    }
+
+    /// Nothing has been written since the two were last equal.
+    fn untouched(&self, call: &str) -> Outcome {
+        let compared = self.library.compare(&self.papers);
+        compared.map_err(|wrong| format!("{call} without effect changed a store: {wrong}"))
+    }
+
+    fn equal_after(&self, call: &str) -> Outcome {
+        let compared = self.library.compare(&self.papers);
+        compared.map_err(|wrong| format!("after {call}: {wrong}"))
+    }
+
+    /// A refusal, and done, leave the state and every store as they were.
+    fn idle<S: PartialEq + Debug>(&self, call: &str, scan: &S, library: &Answer<S>) -> Outcome {
+        if library.kind == REFUSED || library.kind == DONE {
+            self.untouched(call)?;
+            same("state after a call without effect", &library.scan, scan)?;
+        }
+        Ok(())
+    }
+
+    fn agree<S: PartialEq + Debug>(
+        &mut self,
+        call: &'static str,
+        library: &Answer<S>,
+        papers: &Answer<S>,
+    ) -> Outcome {
+        same(call, library, papers)?;
+        self.equal_after(call)?;
+        let number = if papers.kind == REFUSED {
+            papers.number
+        } else {
+            0
+        };
+        self.tally.answered(call, number);
+        Ok(())
+    }
+}
+
+/// The stores of the filter.
 #[derive(Clone, PartialEq)]
 pub struct World {
     samples: Lent<u16>,
@@ -62,7 +143,7 @@ pub struct World {
     out: Lent<i32>,
 }
 
-impl World {
+impl Stores for World {
     fn compare(&self, papers: &World) -> Outcome {
         self.samples.compare("sample store", &papers.samples)?;
         self.sums.compare("sum store", &papers.sums)?;
@@ -89,11 +170,7 @@ impl Lengths {
     }
 }
 
-pub struct Bench<'a> {
-    pub tally: &'a mut Tally,
-    library: World,
-    papers: World,
-}
+pub type Bench<'a> = Twins<'a, World>;
 
 impl<'a> Bench<'a> {
     /// Stores with room for `count` rectangles at `width`, often a little more, and dirt in them.
@@ -118,19 +195,14 @@ impl<'a> Bench<'a> {
             sums: Lent::new(needed.sums + j, || rng.next() as u32),
             out: Lent::new(needed.out + k, || rng.next() as i32),
         };
-        Bench {
-            tally,
-            library: world.clone(),
-            papers: world,
-        }
+        Bench::of(tally, world)
     }
 
-    /// Lends so many places from now on, or all there are if they are fewer.
     pub fn lend(&mut self, lengths: Lengths) {
         for world in [&mut self.library, &mut self.papers] {
-            world.samples.given = lengths.samples.min(world.samples.room());
-            world.sums.given = lengths.sums.min(world.sums.room());
-            world.out.given = lengths.out.min(world.out.room());
+            world.samples.lend(lengths.samples);
+            world.sums.lend(lengths.sums);
+            world.out.lend(lengths.out);
         }
     }
 
@@ -161,27 +233,6 @@ impl<'a> Bench<'a> {
     /// The output as the library left it.
     pub fn output(&mut self) -> &[i32] {
         self.library.out.part()
-    }
-
-    /// A copy of the stores, to be put back later.
-    pub fn keep(&self) -> World {
-        self.papers.clone()
-    }
-
-    pub fn put_back(&mut self, world: &World) {
-        self.library = world.clone();
-        self.papers = world.clone();
-    }
-
-    /// Nothing has been written since the two were last equal.
-    fn untouched(&self, call: &str) -> Outcome {
-        let compared = self.library.compare(&self.papers);
-        compared.map_err(|wrong| format!("{call} without effect changed a store: {wrong}"))
-    }
-
-    fn equal_after(&self, call: &str) -> Outcome {
-        let compared = self.library.compare(&self.papers);
-        compared.map_err(|wrong| format!("after {call}: {wrong}"))
     }
 
     pub fn start(&mut self, table: &Table, width: usize) -> Result<Started, String> {
@@ -265,26 +316,5 @@ impl<'a> Bench<'a> {
         self.tally.saw_if("step: waiting", papers.kind == WAITING);
         self.tally.saw_if("step: done", papers.kind == DONE);
         Ok(papers)
-    }
-
-    /// A refusal, and done, leave the state and every store as they were.
-    fn idle(&self, call: &str, scan: &Scan, library: &Answer) -> Outcome {
-        if library.kind == REFUSED || library.kind == DONE {
-            self.untouched(call)?;
-            same("state after a call without effect", &library.scan, scan)?;
-        }
-        Ok(())
-    }
-
-    fn agree(&mut self, call: &'static str, library: &Answer, papers: &Answer) -> Outcome {
-        same(call, library, papers)?;
-        self.equal_after(call)?;
-        let number = if papers.kind == REFUSED {
-            papers.number
-        } else {
-            0
-        };
-        self.tally.answered(call, number);
-        Ok(())
     }
 }

@@ -9,8 +9,8 @@ use crate::tally::{same, Outcome, Tally};
 use crate::world::Bench;
 
 /// The next call on a scan: a row while it is open, a closing step after.
-struct Next {
-    row: Option<Vec<u16>>,
+pub struct Next {
+    pub row: Option<Vec<u16>>,
 }
 
 impl Next {
@@ -19,7 +19,7 @@ impl Next {
         Next { row }
     }
 
-    fn arrival(&self) -> Arrival<'_> {
+    pub fn arrival(&self) -> Arrival<'_> {
         match &self.row {
             Some(row) => Arrival::Row(row),
             None => Arrival::Zeros,

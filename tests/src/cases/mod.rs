@@ -5,6 +5,7 @@ mod bursts;
 mod files;
 mod long;
 mod pixels;
+mod ranks;
 mod scans;
 mod states;
 mod strips;
@@ -29,7 +30,7 @@ const fn kind(
 }
 
 /// Cases are numbered through in this order.
-pub const KINDS: [Kind; 16] = [
+pub const KINDS: [Kind; 19] = [
     kind("strips of the paper", strips::COUNT, strips::case),
     kind("files at the limits", 60_000, files::limits),
     kind("files at question 10", 10_000, files::question_10),
@@ -46,4 +47,7 @@ pub const KINDS: [Kind; 16] = [
     kind("states by hand", 30_000, states::any),
     kind("states near the last row", 4_000, states::near_the_end),
     kind("scans past the last row", 3, long::case),
+    kind("ranked scans", 20_000, ranks::case),
+    kind("ranked, altered stores", 10_000, ranks::altered::case),
+    kind("ranked states", 8_000, ranks::states::case),
 ];

@@ -227,7 +227,7 @@ impl Running<'_> {
             match rng.below(5) {
                 0 => scan = spoilt(rng, &scan),
                 1 => relength(rng, &mut row, self.scan.width),
-                2 => brighten(rng, &self.scan.table, &mut row),
+                2 => brighten(rng, table::largest_sample(&self.scan.table), &mut row),
                 _ => self.lend_too_little(rng),
             }
         }
@@ -251,16 +251,15 @@ fn columns(rng: &mut Rng, table: &Table, width: usize) -> Vec<usize> {
 }
 
 /// A row of a wrong length.
-fn relength(rng: &mut Rng, row: &mut Vec<u16>, width: usize) {
+pub fn relength(rng: &mut Rng, row: &mut Vec<u16>, width: usize) {
     let length = rng.pick(&[0, width - 1, width + 1, 2 * width, width + 32]);
     row.resize(length, 0);
 }
 
-/// One or two samples above 2^b - 1; a row without samples gets one, which is a wrong length.
-fn brighten(rng: &mut Rng, table: &Table, row: &mut Vec<u16>) {
-    let largest = table::largest_sample(table);
+/// One or two samples above 2^b - 1; a row without samples gets some, more than any width.
+pub fn brighten(rng: &mut Rng, largest: u16, row: &mut Vec<u16>) {
     if row.is_empty() {
-        row.resize(table.count * 2000, 0);
+        row.resize(2000, 0);
     }
     for _ in 0..rng.below(2) + 1 {
         let at = rng.below(row.len());

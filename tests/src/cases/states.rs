@@ -62,7 +62,8 @@ pub fn any(rng: &mut Rng, tally: &mut Tally, _: u64) -> Outcome {
     let good = agreeing(rng);
     let mut bench = Bench::new(rng, tally, good.table.count, good.width);
     let row = row_for(rng, &good);
-    let good_row = row.len() == good.width && first_above(&good.table, &row).is_none();
+    let largest = table::largest_sample(&good.table);
+    let good_row = row.len() == good.width && first_above(largest, &row).is_none();
     let arrival = if good.closed || !good_row {
         Arrival::Zeros
     } else {

@@ -1,16 +1,17 @@
-//! The strips of the paper, with the numbers that the paper gives.
+//! The strips of the paper, with the numbers that the paper gives; those of the ranked window are worked out by hand.
 
 use crate::engine;
-use crate::ffi::{self, Rect, Table, DONE, WAITING};
+use crate::ffi::{self, Rank, Rect, Table, Window, DONE, ROW, WAITING};
 use crate::pixel;
 use crate::rng::Rng;
 use crate::table;
 use crate::tally::{same, Outcome, Tally};
+use crate::world::ranked::RankBench;
 use crate::world::Bench;
 
 type Strip = fn(&mut Rng, &mut Tally) -> Outcome;
 
-const STRIPS: [Strip; 9] = [
+const STRIPS: [Strip; 13] = [
     table_a_pixels,
     table_a_words,
     drops,
@@ -20,6 +21,10 @@ const STRIPS: [Strip; 9] = [
     bright_samples,
     no_rows,
     dead_elements,
+    ranked_square,
+    ranked_beside,
+    ranked_limits,
+    ranked_no_rows,
 ];
 
 pub const COUNT: u64 = STRIPS.len() as u64;
@@ -216,4 +221,129 @@ fn dead_elements(rng: &mut Rng, tally: &mut Tally) -> Outcome {
     bench.set_sample(2 * 5 + 1, X);
     let answer = bench.row(&scan, &[1; 5])?;
     same("65,535 kept", &(answer.number, answer.place), &(19, 0))
+}
+
+/// A ranked scan of rows of `width` samples, its edges in the order of a table file.
+fn ranked(b: u8, edges: [i8; 4], rank: u32, width: usize) -> Rank {
+    let [leadrow, leadcol, trailrow, trailcol] = edges;
+    Rank {
+        window: Window {
+            leadrow,
+            leadcol,
+            trailrow,
+            trailcol,
+        },
+        b,
+        rank,
+        width,
+        ..Rank::default()
+    }
+}
+
+/// A window of 3 by 3 around its pixel.
+const SQUARE: [i8; 4] = [1, 1, -2, -2];
+
+/// A scan of three columns gives these ranked rows.
+fn ranked_is(
+    (rng, tally): (&mut Rng, &mut Tally),
+    (edges, rank): ([i8; 4], u32),
+    given: &[[u16; 3]],
+    expected: &[[i32; 3]],
+) -> Outcome {
+    let mut bench = RankBench::new(rng, tally, 3);
+    let mut scan = bench.start(&ranked(8, edges, rank, 3))?.scan;
+    let mut out = Vec::new();
+    let mut take = |bench: &RankBench, kind| {
+        if kind == ROW {
+            out.push([0, 1, 2].map(|c| bench.output()[c]));
+        }
+    };
+    for row in given {
+        let answer = bench.row(&scan, row)?;
+        take(&bench, answer.kind);
+        scan = answer.scan;
+    }
+    scan = bench.close(&scan)?.scan;
+    loop {
+        let answer = bench.step(&scan)?;
+        if answer.kind == DONE {
+            return same("ranked rows", out.as_slice(), expected);
+        }
+        take(&bench, answer.kind);
+        scan = answer.scan;
+    }
+}
+
+fn ranked_square(rng: &mut Rng, tally: &mut Tally) -> Outcome {
+    let given = [[9, 1, 8], [2, 7, 3], [6, 4, 5]];
+    let smallest = [[1, 1, 1], [1, 1, 1], [2, 2, 3]];
+    let third = [[7, 3, 7], [4, 3, 4], [6, 4, 5]];
+    let fifth = [[9, 8, 8], [7, 5, 7], [7, 6, 7]];
+    let largest = [[9, 9, 8], [9, 9, 8], [7, 7, 7]];
+    for (rank, expected) in [(1, smallest), (3, third), (5, fifth), (9, largest)] {
+        ranked_is((rng, tally), (SQUARE, rank), &given, &expected)?;
+    }
+    let mut speck = [[10; 3]; 5];
+    speck[2][1] = 255;
+    ranked_is((rng, tally), (SQUARE, 4), &speck, &[[10; 3]; 5])?;
+    const X: u16 = 65_535;
+    let dead = [[X, 7, X], [X, X, 3], [X; 3]];
+    let mended = [[0, 7, 7], [0, 0, 3], [0; 3]];
+    ranked_is((rng, tally), ([0, 0, -1, -1], 1), &dead, &mended)
+}
+
+/// Windows beside the pixel: what lies outside the scan is not counted, and not dark.
+fn ranked_beside(rng: &mut Rng, tally: &mut Tally) -> Outcome {
+    let given = [[4, 5, 6], [7, 8, 9]];
+    let left = [0, -1, -1, -2];
+    let expected = [[-1, 4, 5], [-1, 7, 8]];
+    ranked_is((rng, tally), (left, 1), &given, &expected)?;
+    let right = [0, 2, -1, 0];
+    let expected = [[6, 6, -1], [9, 9, -1]];
+    ranked_is((rng, tally), (right, 2), &given, &expected)?;
+    let above = [-1, 0, -2, -1];
+    let expected = [[-1, -1, -1], [4, 5, 6]];
+    ranked_is((rng, tally), (above, 1), &given, &expected)?;
+    let below = [2, 0, 0, -1];
+    let expected = [[7, 8, 9], [-1, -1, -1]];
+    ranked_is((rng, tally), (below, 1), &given, &expected)
+}
+
+fn ranked_limits(rng: &mut Rng, tally: &mut Tally) -> Outcome {
+    let mut bench = RankBench::new(rng, tally, 1025);
+    let mut says = |what, wanted, number| {
+        let started = bench.start(&wanted)?;
+        same(what, &started.refusal, &number)
+    };
+    let all = [15, 15, -16, -16];
+    let past = [16, 1, -2, -2];
+    says("b = 8", ranked(8, SQUARE, 5, 3), 0)?;
+    says("b = 9", ranked(9, SQUARE, 5, 3), 23)?;
+    says("b = 12", ranked(12, SQUARE, 5, 3), 23)?;
+    says("b = 13", ranked(13, SQUARE, 5, 3), 3)?;
+    says("b = 0", ranked(0, SQUARE, 5, 3), 3)?;
+    says("lead 16", ranked(8, past, 5, 3), 8)?;
+    says("trail -17", ranked(8, [1, 1, -2, -17], 5, 3), 8)?;
+    says("R = 9", ranked(8, SQUARE, 9, 3), 0)?;
+    says("R = 10", ranked(8, SQUARE, 10, 3), 22)?;
+    says("R = 0", ranked(8, SQUARE, 0, 3), 22)?;
+    says("R = 961", ranked(8, all, 961, 3), 0)?;
+    says("R = 962", ranked(8, all, 962, 3), 22)?;
+    says("1,024 columns", ranked(8, SQUARE, 5, 1024), 0)?;
+    says("1,025 columns", ranked(8, SQUARE, 5, 1025), 12)?;
+    says("no columns", ranked(8, SQUARE, 5, 0), 12)?;
+    says("3, then 8", ranked(13, past, 0, 0), 3)?;
+    says("23, then 8", ranked(9, past, 0, 0), 23)?;
+    says("8, then 22", ranked(8, past, 0, 0), 8)?;
+    says("22, then 12", ranked(8, SQUARE, 0, 0), 22)
+}
+
+fn ranked_no_rows(rng: &mut Rng, tally: &mut Tally) -> Outcome {
+    let mut bench = RankBench::new(rng, tally, 2);
+    let scan = bench.start(&ranked(8, SQUARE, 5, 2))?.scan;
+    let closed = bench.close(&scan)?.scan;
+    let first = bench.step(&closed)?;
+    same("no rows, first step", &first.kind, &WAITING)?;
+    let second = bench.step(&first.scan)?;
+    same("no rows, second step", &second.kind, &DONE)
 }
