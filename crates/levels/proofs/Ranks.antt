@@ -2,15 +2,15 @@
 -- Assumes nothing.
 use Prim.Native.Nat.{ℕ, zero, suc, _+_, _≤_, _<_}
 use native.Mathlib.Omega.{arith}
-use mathlib.Core.Path.{_≡_, refl, ap, ap₂, _∙_}
-use mathlib.Core.Bool.{cond}
-use lib.Dec.{T, leb, ltb, eqb, lt→ltb, ltb→lt}
+use mathlib.Core.Path.{_≡_, refl, sym, ap, ap₂, _∙_}
+use mathlib.Core.Bool.{Bool, true, false, not, cond}
+use lib.Dec.{T, leb, ltb, eqb, lt→ltb, ltb→lt, nltb→le}
 use lib.IntN.{pos}
 use borrow.Author.Tests.{le-leb, lt-leb, le-ltb, ltb-false, eq-eqb, ne-eqb}
 use Rattle.arith.specs.Sum.{sum}
 use Rattle.arith.specs.First.{firstNot}
-use Rattle.arith.proofs.Sums.{sum-prefix, sum-suc, sum-cong}
-use Rattle.arith.proofs.Firsts.{first-at, first-none, first-before, first-fails, first-cong}
+use Rattle.arith.proofs.Sums.{sum-prefix, sum-split, sum-suc, sum-cong}
+use Rattle.arith.proofs.Firsts.{first-at, first-none, first-before, first-fails, first-last, first-cong}
 use Rattle.levels.specs.Levels.{upTo, below, highest, ranked}
 
 -- the top level counts, or the highest is the highest below it
@@ -37,6 +37,31 @@ module _ (f : ℕ → ℕ) (R : ℕ) where
   pub reached-none : (n : ℕ) → sum n f < R → firstNot n (below f R) ≡ n
   reached-none n h = first-none n (below f R) (all-below n h)
 
+  -- of the levels from `at` on, whose counts stand in g: those passed below the rank, with what is counted below `at` added
+  pub passed-from : (at n : ℕ) (g : ℕ → ℕ) → ((i : ℕ) → i < n → g i ≡ f (at + i))
+      → firstNot n (λ i. ltb (sum at f + upTo g i) R) ≡ firstNot n (λ i. below f R (at + i))
+  unfolding upTo
+  passed-from at n g h =
+      first-cong n (λ i l.
+      let e : at + suc i ≡ suc (at + i) = omega arith in
+      ap (λ k. ltb k R) (ap (λ k. sum at f + k) (sum-cong (suc i) (λ j m. h j (omega arith))) ∙ sym (sum-split at (suc i) f) ∙ ap (λ k. sum k f) e))
+
+  -- where the rank is reached within n levels from `at` on, one of them reaches it
+  pub reached-within : (at n : ℕ) → R ≤ sum (at + suc n) f → firstNot (suc n) (λ i. below f R (at + i)) < suc n
+  unfolding upTo
+  reached-within at n h = go (ltb k (suc n)) (ltb→lt k (suc n)) (nltb→le k (suc n))
+    where
+      k : ℕ
+      k = firstNot (suc n) (λ i. below f R (at + i))
+
+      go : (b : Bool) → (T b → k < suc n) → (T (not b) → suc n ≤ k) → k < suc n
+      go true y z = y tt
+      go false y z =
+          let e : suc (at + n) ≡ at + suc n = omega arith in
+          let s = ap (λ i. sum i f) e in
+          let l = ltb→lt (sum (suc (at + n)) f) R (first-before (suc n) (λ i. below f R (at + i)) n (z tt)) in
+          absurd (omega arith)
+
   -- of the first level that reaches the rank, among n
   pub ranked-found : (n : ℕ) → firstNot n (below f R) < n → ranked n R f ≡ pos (firstNot n (below f R))
   unfolding ranked upTo
@@ -50,6 +75,25 @@ module _ (f : ℕ → ℕ) (R : ℕ) where
   unfolding ranked upTo sum
   ranked-none zero r h = rw (lt-leb R 0 r) refl
   ranked-none (suc n) r h = rw (lt-leb R (sum (suc n) f) (ltb→lt (sum (suc n) f) R (first-before (suc n) (below f R) n (omega arith)))) refl
+
+-- a running sum from `before` on: where it is below the rank at level i, it is at each level before, and where it is not, i is not passed
+module _ (f : ℕ → ℕ) (before R i : ℕ) where
+  abbrev under : (k : ℕ) → Bool
+  under k = ltb (before + upTo f k) R
+
+  held : before + sum (suc i) f < R → (k : ℕ) → k < suc i → T (under k)
+  unfolding upTo
+  held h k l = lt→ltb (before + sum (suc k) f) R (let p = sum-prefix (suc k) (suc i) f l in omega arith)
+
+  pub passes : before + sum (suc i) f < R → firstNot i under + 1 ≡ firstNot (suc i) under
+  passes h =
+      let a = first-none i under (λ k l. held h k (omega arith)) in
+      let b = first-none (suc i) under (held h) in
+      omega arith
+
+  pub stays : R ≤ before + sum (suc i) f → firstNot i under ≡ firstNot (suc i) under
+  unfolding upTo
+  stays h = sym (first-last i under (le-ltb (before + sum (suc i) f) R h))
 
 -- counts that agree below n have one highest level, and one level of each rank
 pub highest-cong : (n : ℕ) {f g : ℕ → ℕ} → ((v : ℕ) → v < n → f v ≡ g v) → highest n f ≡ highest n g

@@ -47,7 +47,18 @@ pub record FindFits (counts : List ℕ) (rank : ℕ) : Type 0 where
   pub ranked : 1 ≤ rank
 
 -- the levels before a block of 16 levels: their counts add up to less than the rank
-pub record BlocksEnd (counts : List ℕ) (rank at s : ℕ) : Type 0 where
+pub record BlocksPassed (counts : List ℕ) (rank at s : ℕ) : Type 0 where
   pub in-list : at ≤ length counts
   pub is : s ≡ sum at (countOf counts)
   pub less : s < rank
+
+-- and with the block they add up to the rank, where the block is a whole one
+pub record BlocksEnd (counts : List ℕ) (rank at s : ℕ) : Type 0 where
+  pub passed : BlocksPassed counts rank at s
+  pub reached : at + 16 ≤ length counts → rank ≤ sum (at + 16) (countOf counts)
+
+-- counts that are added to a sum
+pub record PassedFits (counts : List ℕ) (before : ℕ) : Type 0 where
+  pub few : length counts ≤ 256
+  pub small : SmallCounts counts
+  pub before-most : before ≤ 1048320

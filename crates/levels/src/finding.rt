@@ -1,11 +1,12 @@
 // The level of a rank in the counts of a window.
 ghost use mathlib.Core.Path.{_≡_};
 ghost use Prim.Native.Nat.{ℕ, _+_, _≤_, _<_};
+ghost use lib.Dec.{ltb};
 ghost use lib.ListN.{length};
 ghost use Rattle.arith.specs.Sum.{sum};
 ghost use Rattle.arith.specs.First.{firstNot};
-ghost use Rattle.levels.specs.Levels.{countOf, below, highest as Levels·highest, ranked};
-ghost use Rattle.levels.specs.Fits.{FindFits, BlocksEnd, SmallCounts};
+ghost use Rattle.levels.specs.Levels.{countOf, upTo, below, highest as Levels·highest, ranked};
+ghost use Rattle.levels.specs.Fits.{FindFits, BlocksEnd, PassedFits, SmallCounts};
 
 // The sum of 16 counts.
 fn block(counts: &[u16]) -> u16
@@ -46,22 +47,35 @@ fn blocks(counts: &[u16], rank: u32) -> Before
     Before { at, sum }
 }
 
+// How many of these levels the sum of the counts passes below the rank, from a sum below it on. A look at every level without a branch is
+// faster than an end at the level that is found, which cannot be foretold.
+fn passed(counts: &[u16], before: u32, rank: u32) -> usize
+    requires { ⌜ PassedFits (now counts) before ⌝ }
+    ensures { λ k. ⌜ k ≡ firstNot (length (now (counts .entry))) (λ i. ltb (before + upTo (countOf (now (counts .entry))) i) rank) ⌝ }
+{
+    let mut sum = before;
+    let mut low = 0;
+    let mut i = 0;
+    while i < counts.len() {
+        sum += counts[i] as u32;
+        if sum < rank {
+            low += 1;
+        }
+        i += 1;
+    }
+    low
+}
+
 // The lowest level at which the sum of the counts reaches the rank, or how many levels there are.
 fn level(counts: &[u16], rank: u32) -> usize
     requires { ⌜ FindFits (now counts) rank ⌝ }
     ensures { λ v. ⌜ v ≡ firstNot (length (now (counts .entry))) (below (countOf (now (counts .entry))) rank) ⌝ }
 {
     let b = blocks(counts, rank);
-    let mut sum = b.sum;
-    let mut v = b.at;
-    while v < counts.len() {
-        sum += counts[v] as u32;
-        if rank <= sum {
-            return v;
-        }
-        v += 1;
-    }
-    v
+    let at = b.at;
+    let n = counts.len();
+    let end = if 16 <= n - at { at + 16 } else { n };
+    at + passed(&counts[at..end], b.sum, rank)
 }
 
 // The highest level that is counted, or -1.

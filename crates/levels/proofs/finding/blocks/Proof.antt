@@ -8,13 +8,13 @@ use Rattle.arith.specs.Sum.{sum}
 use Rattle.arith.proofs.Parts.{part, part-at, part-length}
 use Rattle.arith.proofs.Sums.{sum-cong, sum-split, sum-bound}
 use Rattle.levels.specs.Levels.{countOf}
-use Rattle.levels.specs.Fits.{BlocksEnd}
+use Rattle.levels.specs.Fits.{BlocksPassed, BlocksEnd}
 use borrow.Author.Needs.{needs}
 use Rattle.levels.proofs.finding.blocks.Statement.{statement}
 use Rattle.levels.proofs.finding.blocks.Tie as tie
 
 abbrev Inv-loop : tie.InvT-loop
-Inv-loop counts rank n sum₀ at₀ s at = (n ≡ length counts) × BlocksEnd counts rank at s
+Inv-loop counts rank n sum₀ at₀ s at = (n ≡ length counts) × BlocksPassed counts rank at s
 
 abbrev μ-loop : tie.MeasureT-loop
 μ-loop counts rank n sum₀ at₀ s at = n - at
@@ -83,7 +83,16 @@ add-more c =
     record { fits = omega arith }
 
 returns : tie.Need-returns Inv-loop μ-loop
-returns c = c .before .before .before .before .loop .inv .1
+returns c =
+    let i = c .before .before .before in
+    let at = i .before .loop .at in
+    let e = sum-split at 16 (countOf (i .before .before .before .args .counts .now)) in
+    let o = block-is i in
+    let q = c .before .block .ensures in
+    let b = i .before .loop .inv .1 in
+    let s = b .is in
+    let t = c .if1 .taken in
+    record { passed = b; reached = λ h. omega arith }
 
 add-at : tie.Need-add-at Inv-loop μ-loop
 add-at c = search needs
@@ -104,7 +113,10 @@ loop-again c =
     (refl, record { in-list = r; is = omega arith; less = c .if1 .left })
 
 returns-2 : tie.Need-returns-2 Inv-loop μ-loop
-returns-2 c = c .before .loop .inv .1
+returns-2 c =
+    let n = c .before .loop .inv .0 in
+    let t = c .loop-test .left in
+    record { passed = c .before .loop .inv .1; reached = λ h. absurd (omega arith) }
 
 pub blocks-spec : {M : Type 1} → statement M
 blocks-spec =

@@ -1,103 +1,150 @@
--- `levels::level` goes on level by level from the block in which the rank is reached: the levels passed add up to less than it.
+-- `levels::level` goes on from the block in which the rank is reached: of the part from there on, the levels passed are those of the whole.
 -- Assumes nothing.
-use Prim.Native.Nat.{_-_}
-use native.Mathlib.Numerals.{add-one}
+use Prim.Native.Nat.{ℕ, _+_, _-_, _≤_, _<_}
 use native.Mathlib.Omega.{arith}
-use mathlib.Core.Path.{_≡_, refl, sym, ap, _∙_}
-use lib.ListN.{length}
-use Rattle.arith.specs.Sum.{sum}
-use Rattle.arith.proofs.Sums.{sum-suc, sum-bound}
-use Rattle.levels.specs.Levels.{countOf}
-use Rattle.levels.specs.Fits.{BlocksEnd}
-use Rattle.levels.proofs.Ranks.{reached-at, reached-none}
+use mathlib.Core.Logic.{_⊎_, inl, inr, ⊎-elim}
+use mathlib.Core.List.{List}
+use mathlib.Core.Path.{_≡_, sym, ap, ap₂, _∙_}
+use lib.Dec.{ltb}
+use lib.ListN.{length, take, drop}
+use lib.Seq.{getD-take, getD-drop}
+use Rattle.arith.specs.First.{firstNot}
+use Rattle.arith.proofs.Firsts.{first-most, first-after}
+use Rattle.arith.proofs.Parts.{part-long}
+use Rattle.arith.proofs.Sums.{sum-bound}
+use Rattle.levels.specs.Levels.{countOf, upTo, below}
+use Rattle.levels.proofs.Ranks.{all-below, passed-from, reached-within}
 use borrow.Author.Needs.{needs}
 use Rattle.levels.proofs.finding.level.Statement.{statement}
 use Rattle.levels.proofs.finding.level.Tie as tie
 
-abbrev Inv-loop : tie.InvT-loop
-Inv-loop counts rank sum₀ v₀ s v = BlocksEnd counts rank v s
+abbrev start : tie.Joined1 → tie.Start
+start c = c .before .before .before
 
-abbrev μ-loop : tie.MeasureT-loop
-μ-loop counts rank sum₀ v₀ s v = length counts - v
+abbrev counts : tie.Joined1 → List ℕ
+counts c = start c .args .counts .now
 
-blocks-requires : tie.Need-blocks-requires Inv-loop μ-loop
-blocks-requires c κs = c .before .pre
+abbrev at : tie.Joined1 → ℕ
+at c = c .before .blocks2 .result .at
 
-loop-holds : tie.Need-loop-holds Inv-loop μ-loop
-loop-holds c = c .blocks2 .ensures
+-- where the part ends that is looked at level by level: with a whole block in which the rank is reached, or with the levels
+record End (c : tie.Joined1) : Type 0 where
+  from : at c ≤ c .if1 .end
+  within : c .if1 .end ≤ length (counts c)
+  is : (c .if1 .end ≡ at c + 16) ⊎ (c .if1 .end ≡ length (counts c))
 
-mul-sum : tie.Need-mul-sum Inv-loop μ-loop
-mul-sum c = search needs
+ends : (c : tie.Joined1) → End c
+ends c =
+    let n = c .before .blocks2 .ensures .passed .in-list in
+    ⊎-elim
+    (λ u. let e = u .1 in let t = u .0 .taken in record { from = omega arith; within = omega arith; is = inl e })
+    (λ u. let e = u .1 in record { from = omega arith; within = omega arith; is = inr e })
+    (c .if1 .came)
 
-shared-slice-read-sum : tie.Need-shared-slice-read-sum Inv-loop μ-loop
-shared-slice-read-sum c = search needs
+-- the part
+abbrev lent : tie.Joined1 → List ℕ
+lent c = take (c .if1 .end - at c) (drop (at c) (counts c))
 
-cast-sum : tie.Need-cast-sum Inv-loop μ-loop
-cast-sum c = let s = c .before .before in let m = s .before .before .before .pre .small (s .loop .v) (c .before .loop-test .taken) in search (needs, m)
+long : (c : tie.Joined1) → length (lent c) ≡ c .if1 .end - at c
+long c = part-long (at c) (c .if1 .end - at c) (counts c) (let e = ends c in let f = e .from in let w = e .within in omega arith)
 
-add-sum : tie.Need-add-sum Inv-loop μ-loop
-add-sum c =
-    let s = c .before .before in
-    let p = s .before .before .before .pre in
-    let b = s .loop .inv in
-    let e = b .is in
+lent-at : (c : tie.Joined1) (i : ℕ) → i < c .if1 .end - at c → countOf (lent c) i ≡ countOf (counts c) (at c + i)
+lent-at c i h = getD-take (c .if1 .end - at c) (drop (at c) (counts c)) i 0 h ∙ getD-drop (at c) (counts c) i 0
+
+-- the levels of it that are passed, as levels of the whole
+passed-is : (c : tie.After-passed) → c .passed .result ≡ firstNot (c .before .before .before .if1 .end - at (c .before .before .before)) (λ i. below (countOf (counts (c .before .before .before))) (start (c .before .before .before) .args .rank) (at (c .before .before .before) + i))
+passed-is c =
+    let j = c .before .before .before in
+    let n = j .if1 .end - at j in
+    let f = countOf (counts j) in
+    let g = countOf (lent j) in
+    let R = start j .args .rank in
+    c .passed .ensures ∙ ap₂ (λ i s. firstNot i (λ k. ltb (s + upTo g k) R)) (long j) (j .before .blocks2 .ensures .passed .is) ∙ passed-from f R (at j) n g (lent-at j)
+
+-- in a whole block the rank is reached
+within-block : (j : tie.Joined1) {k : ℕ} → k ≡ firstNot (j .if1 .end - at j) (λ i. below (countOf (counts j)) (start j .args .rank) (at j + i))
+    → j .if1 .end ≡ at j + 16 → k < j .if1 .end - at j
+within-block j e q =
+    let n : j .if1 .end - at j ≡ 16 = omega arith in
+    let w = ends j .within in
+    let r = reached-within (countOf (counts j)) (start j .args .rank) (at j) 15 (j .before .blocks2 .ensures .reached (omega arith)) in
+    rw n (rw (e ∙ ap (λ i. firstNot i (λ i. below (countOf (counts j)) (start j .args .rank) (at j + i))) n) r)
+
+blocks-requires : tie.Need-blocks-requires
+blocks-requires c κs = search needs
+
+sub-if1 : tie.Need-sub-if1
+sub-if1 c = search needs
+
+add-end : tie.Need-add-end
+add-end c = search needs
+
+mul-passed : tie.Need-mul-passed
+mul-passed c = search needs
+
+sub-passed : tie.Need-sub-passed
+sub-passed c = let e = ends (c .before) .from in search (needs, e)
+
+part-passed-start : tie.Need-part-passed-start
+part-passed-start c = let e = ends (c .before) .from in search (needs, e)
+
+part-passed-end : tie.Need-part-passed-end
+part-passed-end c = let e = ends (c .before) in let f = e .from in let w = e .within in search (needs, f, w)
+
+passed-requires : tie.Need-passed-requires
+passed-requires c κs =
+    let j = c .before .before in
+    let p = start j .pre in
+    let b = j .before .blocks2 .ensures .passed in
     let n = b .in-list in
     let few = p .few in
-    let m = sum-bound (s .loop .v) 4095 {f = countOf (s .before .before .before .args .counts .now)} (λ k h. p .small k (omega arith)) in
-    let k = p .small (s .loop .v) (c .before .loop-test .taken) in
-    record { fits = omega arith }
-
-returns : tie.Need-returns Inv-loop μ-loop
-returns c =
-    let s = c .before .before .before in
-    let a = s .before .before .before .args in
-    let b = s .loop .inv in
-    let e = b .is in
-    let l = b .less in
-    sym (reached-at (countOf (a .counts .now)) (a .rank) (length (a .counts .now)) (s .loop .v) (c .before .before .loop-test .taken) (omega arith) (let t = c .if1 .taken in omega arith))
-
-add-v : tie.Need-add-v Inv-loop μ-loop
-add-v c = search needs
-
-loop-less : tie.Need-loop-less Inv-loop μ-loop
-loop-less c = search needs
-
-loop-again : tie.Need-loop-again Inv-loop μ-loop
-loop-again c =
-    let s = c .before .before .before in
-    let v = s .loop .v in
-    let b = s .loop .inv in
-    let t = c .before .before .loop-test .taken in
+    let s = b .is in
+    let e = ends j in
+    let f = e .from in
+    let w = e .within in
+    let l = long j in
+    let m = sum-bound (at j) 4095 {f = countOf (counts j)} (λ k h. p .small k (omega arith)) in
     record {
-      in-list = omega arith;
-      is = rw (add-one v, sum-suc v (countOf (s .before .before .before .args .counts .now)), b .is) refl;
-      less = c .if1 .left;
+      few = omega arith;
+      small = λ v h. rw (lent-at j v (omega arith)) (p .small (at j + v) (omega arith));
+      before-most = omega arith;
     }
 
-returns-2 : tie.Need-returns-2 Inv-loop μ-loop
-returns-2 c =
-    let s = c .before in
-    let a = s .before .before .before .args in
-    let b = s .loop .inv in
-    let l = b .less in
-    let k : s .loop .v ≡ length (a .counts .now) = let t = c .loop-test .left in let n = b .in-list in omega arith in
-    let e = b .is ∙ ap (λ n. sum n (countOf (a .counts .now))) k in
-    k ∙ sym (reached-none (countOf (a .counts .now)) (a .rank) (length (a .counts .now)) (omega arith))
+add-result : tie.Need-add-result
+add-result c =
+    let j = c .before .before .before in
+    let e = passed-is c in
+    let m = first-most (j .if1 .end - at j) (λ i. below (countOf (counts j)) (start j .args .rank) (at j + i)) in
+    let f = ends j .from in
+    let w = ends j .within in
+    let few = start j .pre .few in
+    search (needs, e, m, f, w, few)
+
+returns : tie.Need-returns
+returns c =
+    let j = c .before .before .before in
+    let n = j .if1 .end - at j in
+    let f = countOf (counts j) in
+    let R = start j .args .rank in
+    let b = j .before .blocks2 .ensures in
+    let s = b .passed .is in
+    let l = b .passed .less in
+    let u = ends j .from in
+    let w = ends j .within in
+    sym (first-after (at j) n (below f R) (c .passed .result) (all-below f R (at j) (omega arith)) (passed-is c) (length (counts j)) (omega arith)
+    (⊎-elim (λ e. inl (within-block j (passed-is c) e)) (λ e. inr (omega arith)) (ends j .is)))
 
 pub level-spec : {M : Type 1} → statement M
 level-spec =
     tie.close
     (tie.spec
-    Inv-loop
-    μ-loop
     blocks-requires
-    loop-holds
-    mul-sum
-    shared-slice-read-sum
-    cast-sum
-    add-sum
-    returns
-    add-v
-    loop-less
-    loop-again
-    returns-2)
+    sub-if1
+    add-end
+    mul-passed
+    sub-passed
+    part-passed-start
+    part-passed-end
+    passed-requires
+    add-result
+    returns)
