@@ -46,7 +46,7 @@ fn divided(x: usize, q: u8) -> usize
 }
 
 // Whether a rectangle covers this offset: above the trail, and not above the lead.
-fn covered(offset: usize, lead: i8, trail: i8) -> bool
+pub fn covered(offset: usize, lead: i8, trail: i8) -> bool
     requires { ⌜ offset ≤ 30 ⌝ }
 {
     let o = offset + 113;
@@ -73,7 +73,7 @@ fn sample(scan: &[u16; 65536], v: View, row: usize, col: usize) -> usize
 }
 
 // The first live sample of row r from column c to the left; 0 where there is none. A dead element is sent as 65,535.
-fn mended(scan: &[u16; 65536], width: usize, r: usize, c: usize) -> usize
+pub fn mended(scan: &[u16; 65536], width: usize, r: usize, c: usize) -> usize
     requires { ⌜ (r ≤ 63) × (width ≤ 1024) × (c ≤ 1023) ⌝ }
     ensures { λ r. ⌜ r ≤ 65535 ⌝ }
 {

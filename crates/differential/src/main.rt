@@ -1,10 +1,11 @@
-// A filter written apart from the engine, run beside it on many scans: prints what was counted and a checksum of the
-// pixels of each.
+// A filter written apart from the engine, run beside it on many scans, and a ranked filter in the same way: prints what was
+// counted and a checksum of the pixels of each.
 ghost use Prim.Native.Nat.{_≤_};
 
 mod chance;
 mod counts;
 mod filter;
+mod ranks;
 mod runs;
 mod tables;
 
@@ -16,11 +17,14 @@ use counts::add;
 use counts::count;
 use layout::Table;
 use layout::Verdict;
+use libc::STDOUT_FILENO;
 use runs::Task;
 use table::Loaded;
 
-// How many tables are drawn.
+// How many tables are drawn, and how many ranked windows.
 const TABLES: u64 = 320;
+
+const RANKS: u64 = 120;
 
 // A sample below 2^b, any or the largest.
 fn level(x: u64, bright: u64, b: u8) -> u16 {
@@ -103,10 +107,10 @@ fn counted(n: &mut [u64; 19], k: Task) {
 }
 
 // The dead elements of a scan.
-fn count_dead(n: &mut [u64; 19], given: &[u16; 65536], k: Task)
-    requires { ⌜ (k .width ≤ 1024) × (k .height ≤ 64) ⌝ }
+fn count_dead(n: &mut [u64; 19], given: &[u16; 65536], width: usize, height: usize)
+    requires { ⌜ (width ≤ 1024) × (height ≤ 64) ⌝ }
 {
-    let end = k.width * k.height;
+    let end = width * height;
     let mut i = 0;
     while i < end {
         count(n, counts::DEAD, given[i] == 65535);
@@ -119,7 +123,7 @@ fn scanned(n: &mut [u64; 19], t: Table, seed: u64) {
     let k = task_of(t, seed);
     counted(n, k);
     let given = samples(seed, t.b);
-    count_dead(n, &given, k);
+    count_dead(n, &given, k.width, k.height);
     runs::run(n, k, &given);
 }
 
@@ -141,8 +145,30 @@ fn all(n: &mut [u64; 19]) {
     }
 }
 
+// A ranked window with a scan of its own.
+fn ranked(n: &mut [u64; 19], seed: u64) {
+    let k = ranks::task(seed, width_of(seed), height_of(seed));
+    counts::scan(n, k.height, k.delay);
+    count(n, counts::BEHIND, ranks::behind(k.window));
+    let given = samples(seed, k.b);
+    count_dead(n, &given, k.width, k.height);
+    ranks::run(n, k, &given);
+}
+
+fn all_ranked(n: &mut [u64; 19]) {
+    let mut i = 0;
+    while i < RANKS {
+        ranked(n, mixed(i ^ 362436069362436069));
+        i += 1;
+    }
+}
+
 fn main() {
     let mut n = [0u64; 19];
     all(&mut n);
     counts::put(&n);
+    let mut m = [0u64; 19];
+    all_ranked(&mut m);
+    io::write_all(STDOUT_FILENO, b"ranked windows\n");
+    counts::put(&m);
 }

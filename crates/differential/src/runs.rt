@@ -32,9 +32,9 @@ const DONE: usize = 1;
 
 const REFUSED: usize = 2;
 
-const ROW: usize = 3;
+pub const ROW: usize = 3;
 
-fn row_said(a: Answer) -> usize {
+pub fn row_said(a: Answer) -> usize {
     match a {
         Answer::Row(number) => ROW + number as usize,
         Answer::Waiting => WAITING,
@@ -42,7 +42,7 @@ fn row_said(a: Answer) -> usize {
     }
 }
 
-fn step_said(a: Closing) -> usize {
+pub fn step_said(a: Closing) -> usize {
     match a {
         Closing::Row(number) => ROW + number as usize,
         Closing::Waiting => WAITING,
@@ -52,7 +52,7 @@ fn step_said(a: Closing) -> usize {
 }
 
 // The answer that is due at arrival i; those from H on are closing steps.
-fn due(height: usize, delay: usize, i: usize) -> usize
+pub fn due(height: usize, delay: usize, i: usize) -> usize
     requires { ⌜ (height ≤ 64) × (delay ≤ 128) ⌝ }
 {
     if height + delay <= i {

@@ -8,6 +8,7 @@ use crate::words::letter;
 use crate::words::long;
 use crate::words::number;
 use crate::words::numbers;
+use crate::words::wide;
 use layout::Table;
 use scan::Scan;
 
@@ -74,10 +75,6 @@ fn pixel(n: &[u16], t: Table) {
 }
 
 // ---- the stores
-
-fn wide(x: u16) -> u32 {
-    x as u32
-}
 
 fn keep(n: &[u16], kept: &mut [u16]) {
     let i = long(n, 0);

@@ -13,16 +13,37 @@
 //   keep I X                      a kept sample set by hand; answers what stood there
 //   alter I X                     a column sum set by hand
 //   pixel L R C N X X ..          the one-pixel call on a scan of N samples, these first and zeros after them
+//
+// and of a ranked scan:
+//
+//   Hold SAMPLES COUNTS WINDOWS OUT   how many places of the three stores and of the output are lent from here on
+//   Begin B LEADROW LEADCOL TRAILROW TRAILCOL R L   start, all in hexadecimal, the edges as bytes
+//   Row X X .. / Close / Step / Numbers ROWS MORE STEPS SHUT   as above
+//   Keep I X / Alter I X / Window I X   a kept sample, a column count, a window count set by hand; answers what stood there
 mod answered;
 mod commands;
 mod desk;
+mod ranked;
 mod words;
 
 ghost use Prim.Native.Nat.{_≤_};
 ghost use lib.ListN.{length};
-use commands::command;
-use desk::fresh;
+use desk::Desk;
 use libc::STDIN_FILENO;
+use ranked::RankDesk;
+use words::letter;
+
+// What the commands are tried on.
+struct Desks {
+    scan: Desk,
+    ranked: RankDesk,
+}
+
+fn fresh() -> Desks {
+    let scan = desk::fresh();
+    let ranked = ranked::fresh();
+    Desks { scan, ranked }
+}
 
 // The end of the line that starts here.
 fn line_end(text: &[u8], start: usize) -> usize
@@ -39,14 +60,52 @@ fn line_end(text: &[u8], start: usize) -> usize
     i
 }
 
+// Whether a line is of the ranked scan: its letter is a capital one.
+fn capital(line: &[u8]) -> bool {
+    let x = letter(line);
+    if x < b'A' { false } else { x <= b'Z' }
+}
+
+// A line, on the filter's stores and those of the ranked scan.
+fn obey(
+    line: &[u8],
+    d: Desks,
+    kept: &mut [u16],
+    sums: &mut [u32],
+    samples: &mut [u16],
+    counts: &mut [u16],
+    windows: &mut [u16],
+) -> Desks {
+    let mut after = d;
+    if capital(line) {
+        let r = ranked::command(line, d.ranked, samples, counts, windows);
+        after.ranked = r;
+    } else {
+        let s = commands::command(line, d.scan, kept, sums);
+        after.scan = s;
+    }
+    after
+}
+
 fn all(text: &[u8]) {
     let mut kept = [0u16; 32768];
     let mut sums = [0u32; 1024];
+    let mut samples = [0u16; 256];
+    let mut counts = [0u16; 2048];
+    let mut windows = [0u16; 300];
     let mut d = fresh();
     let mut start = 0;
     while start < text.len() {
         let end = line_end(text, start);
-        d = command(&text[start..end], d, &mut kept, &mut sums);
+        d = obey(
+            &text[start..end],
+            d,
+            &mut kept,
+            &mut sums,
+            &mut samples,
+            &mut counts,
+            &mut windows,
+        );
         start = end + 1;
     }
 }

@@ -81,11 +81,15 @@ pub fn number(n: &[u16], k: usize) -> u16 {
     if k < n.len() { n[k] } else { 0 }
 }
 
+pub fn wide(x: u16) -> u32 {
+    x as u32
+}
+
 pub fn long(n: &[u16], k: usize) -> usize {
     number(n, k) as usize
 }
 
-fn byte(n: &[u16], k: usize) -> u8 {
+pub fn byte(n: &[u16], k: usize) -> u8 {
     (number(n, k) % 256) as u8
 }
 

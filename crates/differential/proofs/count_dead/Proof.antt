@@ -7,16 +7,16 @@ use Rattle.differential.proofs.count_dead.Statement.{statement}
 use Rattle.differential.proofs.count_dead.Tie as tie
 
 abbrev Inv-loop : tie.InvT-loop
-Inv-loop n₀ given end i₀ n i = (i ≤ end) × (end ≤ 65536)
+Inv-loop n₀ given width height end i₀ n i = (i ≤ end) × (end ≤ 65536)
 
 abbrev μ-loop : tie.MeasureT-loop
-μ-loop n₀ given end i₀ n i = end - i
+μ-loop n₀ given width height end i₀ n i = end - i
 
 mul-end : tie.Need-mul-end Inv-loop μ-loop
-mul-end c = let m = mul-le-mul (c .before .pre .0) (c .before .pre .1) in search (needs, m)
+mul-end c = let m = mul-le-mul (c .pre .0) (c .pre .1) in search (needs, m)
 
 loop-holds : tie.Need-loop-holds Inv-loop μ-loop
-loop-holds c = let m = mul-le-mul (c .before .pre .0) (c .before .pre .1) in search (needs, m)
+loop-holds c = let m = mul-le-mul (c .pre .0) (c .pre .1) in search (needs, m)
 
 mul-count : tie.Need-mul-count Inv-loop μ-loop
 mul-count c = search needs
