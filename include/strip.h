@@ -227,7 +227,9 @@ typedef struct {
      samples   32 * width. Arrival a, a row or the zeros of a closing step, is kept from (a mod 32) * width on.
      counts    256 * width. At 256 * c + v stands how many samples of level v column c has in the rows of the scan that the window covers.
                Places of levels from 2^b on are neither read nor written after the start.
-     windows   256. Zero after every accepted row and closing step, also while waiting; what they held before does not matter. */
+     windows   256. Zero after every accepted row and closing step, also while waiting; what they held before does not matter.
+
+   A row and a closing step take about 5 KB of stack each. */
 typedef struct {
     strip_window window;
     uint8_t b;

@@ -33,10 +33,6 @@ module _ (f : ℕ → ℕ) (R : ℕ) where
   unfolding upTo
   reached-at n v l h g = first-at n (below f R) v l (all-below v h) (le-ltb (sum (suc v) f) R (let e = sum-suc v f in omega arith))
 
-  -- or none does
-  pub reached-none : (n : ℕ) → sum n f < R → firstNot n (below f R) ≡ n
-  reached-none n h = first-none n (below f R) (all-below n h)
-
   -- of the levels from `at` on, whose counts stand in g: those passed below the rank, with what is counted below `at` added
   pub passed-from : (at n : ℕ) (g : ℕ → ℕ) → ((i : ℕ) → i < n → g i ≡ f (at + i))
       → firstNot n (λ i. ltb (sum at f + upTo g i) R) ≡ firstNot n (λ i. below f R (at + i))
