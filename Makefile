@@ -1,11 +1,11 @@
 # make test      the gate: every crate proved from nothing, every must-fail edit refused, every program run, the examples, the outside tests
-# make run       filters the strip under scans/ and lists Table A; proves the programs first, which takes some minutes once
+# make run       filters the strips under scans/ and lists Table A; proves the programs first, which takes some minutes once
 # make lib       build/libstrip.a and build/strip.h, for C
 # make examples  the header compiled as C and C++, the C example run
 # make outside   the library, through its C interface, beside a filter written separately from the papers
 # make programs  stripfilter and listing as a user meets them: options, faults, input in pieces, beside a filter in Python
 # make bench     the speed of the engine and of the ranked window beside C loops, and the program's beside the engine
-# make scan      makes the strip under scans/ again
+# make scan      makes the strips under scans/ again
 # make edits CRATE=name   tries one crate's must-fail edits: where each is refused, and whether that is at a fact
 # make tidy      names in docs/PROMISES.md that do not exist, definitions that nothing uses
 
@@ -24,10 +24,12 @@ run: kit
 	@target/bin/stripfilter tables/even.table <scans/strip.pgm >build/strip-filtered.pgm
 	@echo "the strip as it was scanned:    scans/strip.pgm"
 	@echo "filtered by tables/even.table:  build/strip-filtered.pgm"
+	@target/bin/stripfilter --rank 13 5 5 <scans/grit.pgm >build/grit-ranked.pgm
+	@echo "a strip with grit:              scans/grit.pgm"
+	@echo "by the median of 5 by 5:        build/grit-ranked.pgm"
 	@if command -v python3 >/dev/null 2>&1; then \
-	    python3 scripts/png.py scans/strip.pgm build/strip.png; \
-	    python3 scripts/png.py build/strip-filtered.pgm build/strip-filtered.png; \
-	    echo "the same as PNG:                build/strip.png, build/strip-filtered.png"; \
+	    for name in scans/strip build/strip-filtered scans/grit build/grit-ranked; do python3 scripts/png.py $$name.pgm build/$${name#*/}.png; done; \
+	    echo "the same as PNG:                build/strip.png, build/strip-filtered.png, build/grit.png, build/grit-ranked.png"; \
 	fi
 	@echo "tables/a.table:"
 	@target/bin/listing <tables/a.table

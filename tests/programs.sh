@@ -1,6 +1,6 @@
 #!/bin/sh
-# The programs as a user meets them: what no contract can say is tried here. stripfilter beside scripts/filter.py on two-byte samples and as
-# values, its input in odd pieces and two scans on one stream, its options and faults; listing on what cannot be read.
+# The programs as a user meets them: what no contract can say is tried here. stripfilter beside scripts/filter.py on two-byte samples, by ranked
+# windows and as values, its input in odd pieces and two scans on one stream, its options and faults; listing on what cannot be read.
 set -u
 cd "$(dirname "$0")/.." || exit 2
 strip=$PWD/target/bin/stripfilter
@@ -43,6 +43,44 @@ same "--values after the table" "$work/after" "$work/values"
 same "input in pieces" "$work/pieces" "$work/picture"
 cat "$work/scan.pgm" "$work/scan.pgm" | { "$strip" "$table" >"$work/first"; "$strip" "$table" >"$work/second"; }
 same "the second of two scans on one stream" "$work/second" "$work/first"
+
+# ranked windows on a scan of 41 by 37, maxval 200: a median, an even window, the smallest and the largest, one wider than the scan
+python3 - >"$work/small.pgm" <<'END'
+import sys
+width, height, state = 41, 37, 1
+out = bytearray(b"P5\n%d %d\n200\n" % (width, height))
+for k in range(width * height):
+    state = (state * 1103515245 + 12345) % 2**31
+    out.append((state >> 12) % 201)
+sys.stdout.buffer.write(out)
+END
+for window in "5 3 3" "3 2 4" "1 1 1" "1 31 31" "961 31 31" "15 1 29"; do
+    # shellcheck disable=SC2086
+    "$strip" --rank $window <"$work/small.pgm" >"$work/picture"
+    # shellcheck disable=SC2086
+    python3 scripts/filter.py --rank $window <"$work/small.pgm" >"$work/wanted"
+    same "--rank $window" "$work/picture" "$work/wanted"
+done
+"$strip" --values --rank 5 3 3 <"$work/small.pgm" >"$work/values"
+python3 scripts/filter.py --values --rank 5 3 3 <"$work/small.pgm" >"$work/wanted"
+same "--values --rank" "$work/values" "$work/wanted"
+"$strip" --rank 5 3 --values 3 <"$work/small.pgm" >"$work/after"
+same "--values between the numbers" "$work/after" "$work/values"
+cat "$work/small.pgm" "$work/small.pgm" | { "$strip" --rank 5 3 3 >"$work/first"; sleep 0.2; "$strip" --rank 5 3 3 >"$work/second"; }
+same "the second of two ranked scans on one stream" "$work/second" "$work/first"
+cp tables/a.table "$work/961"
+(cd "$work" && "$strip" 961 <small.pgm) >"$work/picture"
+"$strip" tables/a.table <"$work/small.pgm" >"$work/wanted"
+same "a table with digits for a name" "$work/picture" "$work/wanted"
+says "two numbers" "usage: stripfilter" "$strip" --rank 5 3
+says "four numbers" "usage: stripfilter" "$strip" --rank 5 3 3 3
+says "no number" "3x: no number" "$strip" --rank 5 3x 3
+says "a table and --rank" "usage: stripfilter" "$strip" "$table" --rank 5 3 3
+says "a rank above the window" "rank: the engine refused, 22" sh -c "'$strip' --rank 10 3 3 <'$work/small.pgm'"
+says "a window of 32 rows" "rank: the engine refused, 8" sh -c "'$strip' --rank 10 32 3 <'$work/small.pgm'"
+says "ten bits to rank" "scan: header: the maxval 1023 needs more than 8 bits" sh -c "'$strip' --rank 5 3 3 <'$work/scan.pgm'"
+says "a sample above the maxval" "scan: row 1, column 0: the sample is above the maxval 7" sh -c "printf 'P5 2 2 7\n\001\002\011\003' | '$strip' --rank 5 3 3 2>&1 >'$work/out'"
+says "a ranked scan cut off" "scan: cut off in row 36 after 40 of 41 bytes" sh -c "head -c -1 '$work/small.pgm' | '$strip' --rank 5 3 3 2>&1 >'$work/out'"
 
 says "--help" "usage: stripfilter" "$strip" --help
 says "-h" "usage: stripfilter" "$strip" -h

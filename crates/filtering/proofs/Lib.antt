@@ -3,3 +3,4 @@ pub mod Stores
 pub mod Texts
 pub mod Accepted
 pub mod Orders
+pub mod Windows

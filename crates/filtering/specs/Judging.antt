@@ -61,7 +61,7 @@ wholeOf b width height maxval =
     (cond (maxvalFits maxval b) (cond (widthGood width) (Accepted (jobOf width height maxval)) (Faulty (Width width))) (Faulty (Bits maxval b)))
     (Faulty (Maxval maxval)))
 
--- what the first n bytes of the scan come to, with a table of b bits
+-- what the first n bytes of the scan come to, for samples of b bits
 unfoldable pub judgedOf : (b : ℕ) → Opening → (n : ℕ) → Judged
 judgedOf b (Whole width height maxval end) n = wholeOf b width height maxval
 judgedOf b More n = cond (eqb n 0) (Faulty Empty) (Faulty CutHeader)

@@ -1,4 +1,5 @@
 pub mod Commands
+pub mod Window
 pub mod Judging
 pub mod Moves
 pub mod Messages

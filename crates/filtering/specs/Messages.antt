@@ -25,7 +25,7 @@ use Rattle.filtering.specs.declared.Fault.the-variants.{
   Engine,
 }
 use Rattle.filtering.specs.declared.Command.{Command}
-use Rattle.filtering.specs.declared.Command.the-variants.{Filter, Help, Version, Unknown, Usage}
+use Rattle.filtering.specs.declared.Command.the-variants.{Filter, Ranked, Help, Version, Unknown, NoNumber, Usage}
 
 -- the lines, from 0 on; each # stands for a number
 unfoldable pub faultLines : List String
@@ -44,7 +44,7 @@ faultLines =
     ∷ "header, byte #: the maxval is above 65535"
     ∷ "header: the maxval is 0"
     ∷ "header: the maxval # is above 4095"
-    ∷ "header: the maxval # needs more bits than the table's b, #"
+    ∷ "header: the maxval # needs more than # bits"
     ∷ "header: the width # is not from 1 to 1024"
     ∷ "cut off in row # after # of # bytes"
     ∷ "row #, column #: the sample is above the maxval #"
@@ -83,14 +83,23 @@ faultText f = messageText (messageOf f)
 -- what is answered to a command line that asks for no filtering
 unfoldable pub answerText : Command → List ℕ
 answerText (Filter values table) = []
+answerText (Ranked values r) = []
 answerText Help =
     lines
     ("usage: stripfilter [--values] TABLE < scan.pgm > filtered.pgm"
-    ∷ "Filters a binary PGM by a table file and writes a 16-bit PGM."
+    ∷ "       stripfilter [--values] --rank R ROWS COLS < scan.pgm > filtered.pgm"
+    ∷ "Filters a binary PGM by a table file and writes a 16-bit PGM; or, up to 8 bits, writes at each"
+    ∷ "place the sample of rank R, from the darkest on, among those under a window of ROWS by COLS."
+    ∷ "  --rank         R from 1 to ROWS * COLS, ROWS and COLS from 1 to 31; a 3 by 3 median is 5 3 3"
     ∷ "  --values       writes the pixels as decimal numbers, a line a row"
     ∷ "  --help, -h     says this"
     ∷ "  --version      says the version"
     ∷ [])
 answerText Version = lines ("stripfilter 1.0.0" ∷ [])
 answerText (Unknown i) = lines ("no such option; stripfilter --help lists them" ∷ [])
-answerText Usage = lines ("usage: stripfilter [--values] TABLE < scan.pgm > filtered.pgm" ∷ [])
+answerText (NoNumber i) = lines ("no number; --rank takes R ROWS COLS" ∷ [])
+answerText Usage =
+    lines
+    ("usage: stripfilter [--values] TABLE < scan.pgm > filtered.pgm"
+    ∷ "       stripfilter [--values] --rank R ROWS COLS < scan.pgm > filtered.pgm"
+    ∷ [])

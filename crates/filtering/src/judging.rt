@@ -6,7 +6,6 @@ ghost use Rattle.filtering.specs.Judging.{maxvalFits, jobOf, wholeOf, ju
 use crate::Fault;
 use crate::Job;
 use crate::Judged;
-use layout::Table;
 use layout::Verdict;
 use pgm::Opening;
 
@@ -42,7 +41,7 @@ fn row_bytes(width: u32, maxval: u32) -> u32
     if maxval <= 255 { width } else { width * 2 }
 }
 
-// A whole header, held to the limits and to the table's b.
+// A whole header, held to the limits and to b.
 fn whole(b: u8, width: u32, height: u32, maxval: u32) -> Judged
     ensures { λ r. ⌜ r ≡ wholeOf b width height maxval ⌝ }
 {
@@ -67,12 +66,12 @@ fn whole(b: u8, width: u32, height: u32, maxval: u32) -> Judged
     })
 }
 
-// What the first n bytes of a scan come to, with a table.
-pub fn judge(t: Table, h: Opening, n: usize) -> Judged
-    ensures { λ r. ⌜ r ≡ judgedOf (t .b) h n ⌝ }
+// What the first n bytes of a scan come to, for samples of b bits.
+pub fn judge(b: u8, h: Opening, n: usize) -> Judged
+    ensures { λ r. ⌜ r ≡ judgedOf b h n ⌝ }
 {
     match h {
-        Opening::Whole(width, height, maxval, _) => whole(t.b, width, height, maxval),
+        Opening::Whole(width, height, maxval, _) => whole(b, width, height, maxval),
         Opening::More => {
             if n == 0 {
                 Judged::Faulty(Fault::Empty)

@@ -4,6 +4,7 @@
 mod judging;
 mod moving;
 mod saying;
+mod window;
 mod words;
 
 pub use judging::judge;
@@ -16,16 +17,20 @@ pub use moving::rows_left;
 pub use moving::whole_part;
 pub use saying::put_answer;
 pub use saying::put_fault;
+pub use window::centred;
 pub use words::ended;
 pub use words::next;
 
 // A word of the command line.
 pub enum Word {
     Values,
+    Rank,
     Help,
     Version,
     // begins with - and is none of these
     Option,
+    // digits; 65,536 stands for whatever is larger
+    Number(u32),
     // anything else names a table
     Table,
 }
@@ -34,12 +39,29 @@ pub enum Word {
 pub enum Command {
     // filter by the table that word `1` names, 0 while there is none; the first says whether values are asked for
     Filter(bool, usize),
+    // filter by a ranked window; the first says whether values are asked for
+    Ranked(bool, Ranking),
     Help,
     Version,
-    // the word at this place is no option
+    // the word at this place is no option; no number
     Unknown(usize),
-    // no table, or two
+    NoNumber(usize),
+    // no table, or two; fewer or more than three numbers
     Usage,
+}
+
+// The numbers after --rank: how many of the three were given, R, and the rows and columns of the window.
+pub struct Ranking {
+    pub given: u32,
+    pub rank: u32,
+    pub rows: u32,
+    pub columns: u32,
+}
+
+// The edges of a window along rows or columns.
+pub struct Edges {
+    pub lead: i8,
+    pub trail: i8,
 }
 
 // A scan that is taken: width, height and maxval of its header, and the bytes of a row.
@@ -63,7 +85,7 @@ pub enum Fault {
     Bad(u32, usize),
     Large(u32, usize),
     NoMaxval,
-    // the maxval; the maxval and the table's b; the width
+    // the maxval; the maxval and b; the width
     Maxval(u32),
     Bits(u32, u8),
     Width(u32),

@@ -84,7 +84,7 @@ header, byte #: the height is above 65535
 header, byte #: the maxval is above 65535
 header: the maxval is 0
 header: the maxval # is above 4095
-header: the maxval # needs more bits than the table's b, #
+header: the maxval # needs more than # bits
 header: the width # is not from 1 to 1024
 cut off in row # after # of # bytes
 row #, column #: the sample is above the maxval #
@@ -109,11 +109,15 @@ pub fn put_answer(c: Command, out: &mut [u8; 4096]) -> usize
 {
     match c {
         Command::Filter(_, _) => 0,
+        Command::Ranked(_, _) => 0,
         Command::Help => put_bytes(
             out,
             0,
             b"usage: stripfilter [--values] TABLE < scan.pgm > filtered.pgm
-Filters a binary PGM by a table file and writes a 16-bit PGM.
+       stripfilter [--values] --rank R ROWS COLS < scan.pgm > filtered.pgm
+Filters a binary PGM by a table file and writes a 16-bit PGM; or, up to 8 bits, writes at each
+place the sample of rank R, from the darkest on, among those under a window of ROWS by COLS.
+  --rank         R from 1 to ROWS * COLS, ROWS and COLS from 1 to 31; a 3 by 3 median is 5 3 3
   --values       writes the pixels as decimal numbers, a line a row
   --help, -h     says this
   --version      says the version
@@ -125,10 +129,13 @@ Filters a binary PGM by a table file and writes a 16-bit PGM.
             0,
             b"no such option; stripfilter --help lists them\n",
         ),
+        Command::NoNumber(_) => put_bytes(out, 0, b"no number; --rank takes R ROWS COLS\n"),
         Command::Usage => put_bytes(
             out,
             0,
-            b"usage: stripfilter [--values] TABLE < scan.pgm > filtered.pgm\n",
+            b"usage: stripfilter [--values] TABLE < scan.pgm > filtered.pgm
+       stripfilter [--values] --rank R ROWS COLS < scan.pgm > filtered.pgm
+",
         ),
     }
 }

@@ -15,7 +15,7 @@ use Rattle.arith.proofs.Bias.{Raised, raised}
 use Rattle.arith.proofs.Ints.{diff-pos, diff-parts, diff-add, diff-posPart, le-diff}
 use Rattle.arith.proofs.Words.{fits-mag, pow-half}
 use mathlib.Core.List.{[], _∷_}
-use Rattle.pgm.specs.Shade.{shade}
+use Rattle.pgm.specs.Shade.{shade, levelByte}
 use Rattle.pgm.specs.declared.Opening.the-variants.{Whole, More, Bad, Large}
 use Rattle.pgm.specs.Grammar.{
   headerOf,
@@ -82,6 +82,11 @@ module _ (w : ℕ) (z : ℤ) (h : 0 < w) (t : T (fitsSigned w z)) where
       let k : w - 16 ≡ 0 = omega arith in
       let e : shade w z ≡ up .sum = word-mapped ∙ rw (is-up, k) (omega arith) in
       rw e (up .less)
+
+-- a level of 8 bits is its own byte
+pub level-exact : (n : ℕ) → n ≤ 255 → levelByte (pos n) ≡ n
+unfolding levelByte
+level-exact n h = omega arith
 
 -- ---- headers
 

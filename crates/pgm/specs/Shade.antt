@@ -1,4 +1,4 @@
--- The mapping from a signed pixel of w bits to a sample of a 16-bit picture.
+-- The mapping from a signed pixel of w bits to a sample of a 16-bit picture, and from a level to a byte.
 -- Assumes nothing.
 use Prim.Native.Nat.{ℕ, _*_, _-_, _/_, _%_, _^_, min}
 use mathlib.Core.Bool.{Bool, cond, _&&_}
@@ -7,7 +7,7 @@ use lib.Dec.{leb, eqb}
 use lib.ListN.{length, getD, drop}
 use lib.IntN.{ℤ, pos, _+ℤ_}
 use Rattle.arith.specs.Part.{posPart}
-use Rattle.arith.specs.Tab.{grid}
+use Rattle.arith.specs.Tab.{tab, grid}
 
 -- pixel + 2^(w - 1), divided by 2^(w - 16) and rounded down where w is above 16; a pixel that does not fit w bits goes to the
 -- nearer end of 0 to 65,535
@@ -31,3 +31,12 @@ unfoldable pub encoded : (w : ℕ) → List ℤ → List ℕ → List ℕ
 encoded w zs out =
     grid (encodedCount w (length zs) (length out)) 2 (λ k. byteOf (shade w (getD zs k (pos 0))))
     ++ drop (encodedCount w (length zs) (length out) * 2) out
+
+-- a level is its own byte; what does not fit a byte goes to the nearer end of 0 to 255
+unfoldable pub levelByte : ℤ → ℕ
+levelByte z = min 255 (posPart z)
+
+-- the output with the bytes of the levels at its start, as many as there are places for
+unfoldable pub encodedLevels : List ℤ → List ℕ → List ℕ
+encodedLevels zs out =
+    tab (min (length zs) (length out)) (λ k. levelByte (getD zs k (pos 0))) ++ drop (min (length zs) (length out)) out

@@ -8,9 +8,9 @@ use lib.ListN.{length, getD, drop}
 use lib.IntN.{ℤ, pos}
 use Rattle.text.specs.Text.{cell, signedCell}
 
--- `P5`, then width and height, then the maxval 65,535, a line each
-unfoldable pub headText : (width height : ℕ) → List ℕ
-headText width height = (80 ∷ 53 ∷ 10 ∷ []) ++ cell width 32 ++ cell height 10 ++ cell 65535 10
+-- `P5`, then width and height, then the maxval, a line each
+unfoldable pub headText : (width height maxval : ℕ) → List ℕ
+headText width height maxval = (80 ∷ 53 ∷ 10 ∷ []) ++ cell width 32 ++ cell height 10 ++ cell maxval 10
 
 -- the byte after pixel k of n, counted from 1: a line feed after the last, else a space
 unfoldable pub after : (k n : ℕ) → ℕ

@@ -1,11 +1,15 @@
-// Binary PGM pictures: the header of one that comes in, the samples of its rows, and the 16-bit picture or the decimal
+// Binary PGM pictures: the header of one that comes in, the samples of its rows, and the picture of 16 or of 8 bits or the decimal
 // text of filtered rows that go out.
+mod levels;
 mod lexing;
 mod parsing;
 mod reading;
 mod shades;
 mod writing;
 
+pub use levels::encode_levels;
+pub use lexing::Digits;
+pub use lexing::number;
 pub use parsing::header;
 pub use reading::decode;
 pub use shades::encode;

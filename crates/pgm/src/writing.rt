@@ -9,16 +9,16 @@ use text::put_bytes;
 use text::put_cell;
 use text::put_signed;
 
-// Puts the header of a 16-bit picture at the start of out, and answers its length.
-pub fn head(width: u32, height: u32, out: &mut [u8; 66]) -> usize
-    ensures { λ r. ⌜ r ≡ length (headText width height) ⌝ }
-    ensures { λ _. ⌜ now (out .exit) ≡ headText width height ++ drop (length (headText width height)) (now (out .entry)) ⌝ }
+// Puts the header of a picture at the start of out, and answers its length.
+pub fn head(width: u32, height: u32, maxval: u32, out: &mut [u8; 66]) -> usize
+    ensures { λ r. ⌜ r ≡ length (headText width height maxval) ⌝ }
+    ensures { λ _. ⌜ now (out .exit) ≡ headText width height maxval ++ drop (length (headText width height maxval)) (now (out .entry)) ⌝ }
     ensures { λ r. ⌜ r ≤ length (now (out .exit)) ⌝ }
 {
     let a = put_bytes(out, 0, b"P5\n");
     let a = put_cell(out, a, width as u64, b' ');
     let a = put_cell(out, a, height as u64, b'\n');
-    put_cell(out, a, 65535, b'\n')
+    put_cell(out, a, maxval as u64, b'\n')
 }
 
 // The byte after pixel k of n, counted from 1.

@@ -1,8 +1,10 @@
-// stripfilter TABLE < scan.pgm > filtered.pgm: filters a scan, a binary PGM, by a table file, and writes a 16-bit PGM; with
-// --values the pixels as decimal numbers, a line a row. The rows that one read brings are filtered and written before more is
-// read. A fault is a line on standard error. What is decided stands in the crate filtering; here bytes are moved between calls.
+// stripfilter TABLE < scan.pgm > filtered.pgm: filters a scan, a binary PGM, by a table file, and writes a 16-bit PGM; with --rank R
+// ROWS COLS in place of a table, by a ranked window, and writes a PGM of the same maxval; with --values the pixels as decimal numbers,
+// a line a row. The rows that one read brings are filtered and written before more is read. A fault is a line on standard error. What
+// is decided stands in the crate filtering; here bytes are moved between calls.
 mod input;
 mod output;
+mod ranks;
 mod rows;
 
 ghost use Rattle.filtering.specs.Judging.{Accepts};
@@ -13,6 +15,7 @@ use filtering::Judged;
 use layout::Table;
 use libc::STDERR_FILENO;
 use libc::STDOUT_FILENO;
+use output::Form;
 use output::Plan;
 use scan::Scan;
 
@@ -31,7 +34,7 @@ fn run(plan: Plan, s: Scan, samples: &mut [u16], sums: &mut [u32])
     }
 }
 
-// Starts a scan.
+// Starts a scan filtered by a table.
 fn start(t: Table, job: Job, values: bool)
     requires { ⌜ Accepts job ⌝ }
 {
@@ -42,11 +45,12 @@ fn start(t: Table, job: Job, values: bool)
     let fault = filtering::row_fault(v, job, 0, 0, 0);
     match fault {
         Fault::None => {
-            let plan = Plan {
-                job,
-                w: t.w,
-                values,
+            let form = if values {
+                Form::Values
+            } else {
+                Form::Words(t.w)
             };
+            let plan = Plan { job, form };
             run(plan, started.scan, &mut samples, &mut sums);
         }
         _ => output::report(b"scan", fault),
@@ -61,7 +65,7 @@ fn filter(t: Table, values: bool) {
         return;
     }
     let h = opened.opening;
-    let judged = filtering::judge(t, h, opened.n);
+    let judged = filtering::judge(t.b, h, opened.n);
     match judged {
         Judged::Accepted(job) => start(t, job, values),
         Judged::Faulty(fault) => output::report(b"scan", fault),
@@ -100,7 +104,9 @@ fn main() {
     let c = input::command();
     match c {
         Command::Filter(values, table) => by_word(table, values),
-        Command::Unknown(i) => output::no_option(c, i),
+        Command::Ranked(values, r) => ranks::filter(r, values),
+        Command::Unknown(i) => output::about_word(c, i),
+        Command::NoNumber(i) => output::about_word(c, i),
         Command::Usage => output::answer(STDERR_FILENO, c),
         _ => output::answer(STDOUT_FILENO, c),
     }

@@ -27,7 +27,7 @@ pub fn answer(fd: i32, c: Command) {
 }
 
 // The same about word i.
-pub fn no_option(c: Command, i: usize) {
+pub fn about_word(c: Command, i: usize) {
     let mut word = io::buffer();
     let n = os::arg(i, &mut word);
     io::write_all(STDERR_FILENO, &word[..n]);
@@ -35,21 +35,35 @@ pub fn no_option(c: Command, i: usize) {
     answer(STDERR_FILENO, c);
 }
 
-// A scan to filter: what its header says, the pixel word of the table, and whether values are wanted.
-pub struct Plan {
-    pub job: Job,
-    pub w: u8,
-    pub values: bool,
+// How filtered rows are written: as decimal numbers, as samples of two bytes from pixels of this many bits, or as bytes.
+pub enum Form {
+    Values,
+    Words(u8),
+    Bytes,
 }
 
-// The header of the picture.
-pub fn begin(plan: Plan) -> bool {
-    if plan.values {
-        return true;
-    }
+// A scan to filter: what its header says, and how it is written.
+pub struct Plan {
+    pub job: Job,
+    pub form: Form,
+}
+
+// The header of a picture with this maxval.
+fn head(job: Job, maxval: u32) -> bool {
     let mut text = [0u8; 66];
-    let n = pgm::head(plan.job.width, plan.job.height, &mut text);
+    let n = pgm::head(job.width, job.height, maxval, &mut text);
     put(&text[..n])
+}
+
+// What comes before the rows: nothing before decimal numbers; bytes have the scan's maxval.
+pub fn begin(plan: Plan) -> bool {
+    let job = plan.job;
+    let form = plan.form;
+    match form {
+        Form::Values => true,
+        Form::Words(_) => head(job, 65535),
+        Form::Bytes => head(job, job.maxval),
+    }
 }
 
 // Filtered rows as lines of decimal numbers.
@@ -77,13 +91,22 @@ fn samples(pixels: &[i32], w: u8) -> bool {
     put(&page[..n])
 }
 
-// Filtered rows, this many at the start of the pixels.
+// A filtered row of levels as bytes.
+fn bytes(levels: &[i32]) -> bool {
+    let mut line = [0u8; 1024];
+    let n = pgm::encode_levels(levels, &mut line);
+    put(&line[..n])
+}
+
+// Filtered rows, this many at the start of the pixels; of levels one at most.
 pub fn rows(plan: Plan, pixels: &[i32], count: usize) -> bool
     requires { ⌜ Accepts (plan .job) ⌝ }
 {
     let n = filtering::packed(count, plan.job.width, pixels.len());
-    if plan.values {
-        return lines(&pixels[..n], plan.job.width as usize);
+    let form = plan.form;
+    match form {
+        Form::Values => lines(&pixels[..n], plan.job.width as usize),
+        Form::Words(w) => samples(&pixels[..n], w),
+        Form::Bytes => bytes(&pixels[..n]),
     }
-    samples(&pixels[..n], plan.w)
 }

@@ -56,7 +56,7 @@ fn some_rows(plan: Plan, bytes: &[u8], s: Scan, samples: &mut [u16], sums: &mut 
 }
 
 // Says why there is no whole row more.
-fn stopped(got: Got, row: u32, need: u32) {
+pub fn stopped(got: Got, row: u32, need: u32) {
     if got.failed {
         os::fail(b"scan");
     } else {

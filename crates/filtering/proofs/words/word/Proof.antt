@@ -1,13 +1,7 @@
--- Each option by its name, in the definition's order; then the first byte.
+-- Each option by its name, in the definition's order; then a plain word.
 -- Assumes nothing.
-use Prim.Native.Nat.{ℕ}
-use native.Mathlib.Omega.{arith}
 use mathlib.Core.Path.{_≡_, refl, sym, _∙_}
 use mathlib.Core.Bool.{Bool, true, false}
-use mathlib.Core.List.{List, [], _∷_}
-use lib.Dec.{eqb}
-use lib.ListN.{length, getD}
-use borrow.Author.Tests.{eq-eqb, ne-eqb}
 use Rattle.text.specs.Ascii.{ascii}
 use Rattle.filtering.specs.Commands.{wordOf}
 use borrow.Author.Needs.{needs}
@@ -19,10 +13,6 @@ yes-is e h = sym e ∙ h
 
 no-is : {g t : Bool} → g ≡ t → g ≡ false → t ≡ false
 no-is e h = sym e ∙ h
-
-no-first : (w : List ℕ) → length w ≡ 0 → eqb (getD w 0 0) 45 ≡ false
-no-first [] h = refl
-no-first (b ∷ w) h = absurd (omega arith)
 
 slice-aggregate-same : tie.Need-slice-aggregate-same
 slice-aggregate-same c = search needs
@@ -64,41 +54,22 @@ returns-4 : tie.Need-returns-4
 unfolding ascii wordOf
 returns-4 c = rw (no-is (c .before .before .before .before .before .before .before .before .before .before .same .ensures) (c .before .before .before .before .before .before .before .before .before .if1 .left), no-is (c .before .before .before .before .before .before .before .same2 .ensures) (c .before .before .before .before .before .before .if2 .left), no-is (c .before .before .before .before .same3 .ensures) (c .before .before .before .if3 .left), yes-is (c .before .same4 .ensures) (c .if4 .taken)) refl
 
+slice-aggregate-same-5 : tie.Need-slice-aggregate-same-5
+slice-aggregate-same-5 c = search needs
+
+same-requires-5 : tie.Need-same-requires-5
+same-requires-5 c κs = search needs
+
 returns-5 : tie.Need-returns-5
 unfolding ascii wordOf
-returns-5 c =
-    rw (
-      no-is (c .before .before .before .before .before .before .before .before .before .before .before .same .ensures) (c .before .before .before .before .before .before .before .before .before .before .if1 .left),
-      no-is (c .before .before .before .before .before .before .before .before .same2 .ensures) (c .before .before .before .before .before .before .before .if2 .left),
-      no-is (c .before .before .before .before .before .same3 .ensures) (c .before .before .before .before .if3 .left),
-      no-is (c .before .before .same4 .ensures) (c .before .if4 .left),
-      no-first _ (c .if5 .taken),
-    ) refl
+returns-5 c = rw (no-is (c .before .before .before .before .before .before .before .before .before .before .before .before .before .same .ensures) (c .before .before .before .before .before .before .before .before .before .before .before .before .if1 .left), no-is (c .before .before .before .before .before .before .before .before .before .before .same2 .ensures) (c .before .before .before .before .before .before .before .before .before .if2 .left), no-is (c .before .before .before .before .before .before .before .same3 .ensures) (c .before .before .before .before .before .before .if3 .left), no-is (c .before .before .before .before .same4 .ensures) (c .before .before .before .if4 .left), yes-is (c .before .same5 .ensures) (c .if5 .taken)) refl
 
-shared-slice-read-if6 : tie.Need-shared-slice-read-if6
-shared-slice-read-if6 c = search needs
+plain-requires : tie.Need-plain-requires
+plain-requires c κs = search needs
 
 returns-6 : tie.Need-returns-6
 unfolding ascii wordOf
-returns-6 c =
-    rw (
-      no-is (c .before .before .before .before .before .before .before .before .before .before .before .before .before .same .ensures) (c .before .before .before .before .before .before .before .before .before .before .before .before .if1 .left),
-      no-is (c .before .before .before .before .before .before .before .before .before .before .same2 .ensures) (c .before .before .before .before .before .before .before .before .before .if2 .left),
-      no-is (c .before .before .before .before .before .before .before .same3 .ensures) (c .before .before .before .before .before .before .if3 .left),
-      no-is (c .before .before .before .before .same4 .ensures) (c .before .before .before .if4 .left),
-      eq-eqb _ _ (c .if6 .taken),
-    ) refl
-
-returns-7 : tie.Need-returns-7
-unfolding ascii wordOf
-returns-7 c =
-    rw (
-      no-is (c .before .before .before .before .before .before .before .before .before .before .before .before .before .same .ensures) (c .before .before .before .before .before .before .before .before .before .before .before .before .if1 .left),
-      no-is (c .before .before .before .before .before .before .before .before .before .before .same2 .ensures) (c .before .before .before .before .before .before .before .before .before .if2 .left),
-      no-is (c .before .before .before .before .before .before .before .same3 .ensures) (c .before .before .before .before .before .before .if3 .left),
-      no-is (c .before .before .before .before .same4 .ensures) (c .before .before .before .if4 .left),
-      ne-eqb _ _ (c .if6 .left),
-    ) refl
+returns-6 c = rw (no-is (c .before .before .before .before .before .before .before .before .before .before .before .before .before .before .same .ensures) (c .before .before .before .before .before .before .before .before .before .before .before .before .before .if1 .left), no-is (c .before .before .before .before .before .before .before .before .before .before .before .same2 .ensures) (c .before .before .before .before .before .before .before .before .before .before .if2 .left), no-is (c .before .before .before .before .before .before .before .before .same3 .ensures) (c .before .before .before .before .before .before .before .if3 .left), no-is (c .before .before .before .before .before .same4 .ensures) (c .before .before .before .before .if4 .left), no-is (c .before .before .same5 .ensures) (c .before .if5 .left)) (c .plain .ensures)
 
 pub word-spec : {M : Type 1} → statement M
 word-spec =
@@ -116,7 +87,8 @@ word-spec =
     slice-aggregate-same-4
     same-requires-4
     returns-4
+    slice-aggregate-same-5
+    same-requires-5
     returns-5
-    shared-slice-read-if6
-    returns-6
-    returns-7)
+    plain-requires
+    returns-6)

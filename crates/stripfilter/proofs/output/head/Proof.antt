@@ -3,11 +3,8 @@
 use mathlib.Core.Path.{sym}
 use lib.Seq.{length-take-le}
 use borrow.Author.Needs.{needs}
-use Rattle.stripfilter.proofs.output.begin.Statement.{statement}
-use Rattle.stripfilter.proofs.output.begin.Tie as tie
-
-returns : tie.Need-returns
-returns c = search needs
+use Rattle.stripfilter.proofs.output.head.Statement.{statement}
+use Rattle.stripfilter.proofs.output.head.Tie as tie
 
 head-requires : tie.Need-head-requires
 head-requires c κs = search needs
@@ -21,16 +18,10 @@ slice-aggregate-put c = sym (length-take-le _ _ (c .before .head .ensures .1 .1)
 put-requires : tie.Need-put-requires
 put-requires c κs = search needs
 
-returns-2 : tie.Need-returns-2
-returns-2 c = search needs
+returns : tie.Need-returns
+returns c = search needs
 
-pub begin-spec : {M : Type 1} → statement M
-begin-spec =
+pub head-spec : {M : Type 1} → statement M
+head-spec =
     tie.close
-    (tie.spec
-    returns
-    head-requires
-    array-share-prefix-text
-    slice-aggregate-put
-    put-requires
-    returns-2)
+    (tie.spec head-requires array-share-prefix-text slice-aggregate-put put-requires returns)
