@@ -15,8 +15,7 @@ use arith::zero_samples;
 use layout::Rect;
 use layout::Verdict;
 use layout::rows;
-use levels::columns_good;
-use levels::move_columns;
+use levels::take_columns;
 use ring::keep;
 
 // D of a window: its lead row, or 0 where that is negative.
@@ -41,11 +40,7 @@ fn count_columns(
 {
     let levels = power(a.b) as usize;
     let most = rows(a.rect) as u16;
-    if !columns_good(counts, off, less, on, more, a.width, levels, most) {
-        return false;
-    }
-    move_columns(counts, off, less, on, more, a.width);
-    true
+    take_columns(counts, off, less, on, more, a.width, levels, most)
 }
 
 // The same of the rows that the window's edges reach.

@@ -159,3 +159,25 @@ good-fits {n} {most} {count} {x} {less} {y} {more} g few small p q =
         go : (b : Bool) → cond b times 0 ≤ times
         go true = omega arith
         go false = omega arith
+
+-- ---- and back again
+
+module _ {n most : ℕ} {count : ℕ → ℕ} {x less y more : ℕ} (g : GoodColumn n most count x less y more) where
+  -- what entered leaves, and what left enters
+  pub moved-back : (v : ℕ) → movedCount (movedCount count x less y more) y more x less v ≡ count v
+  unfolding movedCount
+  moved-back v = let l = taken v in omega arith
+    where
+      taken : (v : ℕ) → one less x v ≤ count v
+      taken v = elim (ℕ-discrete v x) [
+        | yes e ↦ rw (e, eq-eqb x x refl) (g .counted)
+        | no q ↦ rw (ne-eqb x v (λ e. q (sym e))) (omega arith)
+      ]
+
+  pub back-fits : n ≤ 256 → most ≤ 255 → less ≤ 1 → ChangeFits 256 (movedCount count x less y more) y more x less
+  unfolding movedCount
+  back-fits few small p =
+      let a = g .off-level in
+      let b = g .on-level in
+      let w = g .within x a in
+      record { off-level = omega arith; on-level = omega arith; counted = rw (eq-eqb y y refl) (omega arith); room = omega arith }

@@ -1,3 +1,4 @@
 pub mod Ors
 pub mod Changes
+pub mod Lines
 pub mod Ranks

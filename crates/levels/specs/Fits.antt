@@ -7,12 +7,15 @@ use lib.ListN.{length, getD}
 use Rattle.arith.specs.Sum.{sum}
 use Rattle.levels.specs.Levels.{countOf, countAt}
 
--- the columns of a row: their counts of 256 levels each, of which the first `levels` are asked
-pub record ColumnsFit (width levels counts off on : ℕ) : Type 0 where
+-- the columns of a row: their counts of 256 levels each, of which the first `levels` are asked; each row counts once or not at all
+pub record TakeFits (width levels most counts off less on more : ℕ) : Type 0 where
   pub few : levels ≤ 256
+  pub small : most ≤ 255
   pub counts-long : width * 256 ≤ counts
   pub off-long : width ≤ off
   pub on-long : width ≤ on
+  pub less-most : less ≤ 1
+  pub more-most : more ≤ 1
 
 -- one column of n levels that changes: x and y are levels, x is counted, and the count of y has room
 pub record ChangeFits (n : ℕ) (count : ℕ → ℕ) (x less y more : ℕ) : Type 0 where

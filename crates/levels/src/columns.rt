@@ -1,5 +1,6 @@
 // The counts of a column, and of all columns of a row: a sample leaves, then another enters.
 ghost use mathlib.Core.Path.{_≡_};
+ghost use mathlib.Core.Bool.{cond};
 ghost use mathlib.Core.List.{_++_};
 ghost use Prim.Native.Nat.{ℕ, _+_, _-_, _*_, _≤_, _<_};
 ghost use lib.Dec.{leb};
@@ -7,7 +8,7 @@ ghost use lib.ListN.{length, getD, drop};
 ghost use Rattle.arith.specs.All.{all};
 ghost use Rattle.arith.specs.Tab.{tab, grid};
 ghost use Rattle.levels.specs.Levels.{one as Levels·one, countOf, movedCount, movedAt, columnGood, columnGoodAt};
-ghost use Rattle.levels.specs.Fits.{ChangeFits, ColumnsFit, MoveFits};
+ghost use Rattle.levels.specs.Fits.{ChangeFits, MoveFits, TakeFits};
 use arith::monus;
 
 // All counts of a column ORed: none of them is above it, and it is not above their sum.
@@ -84,34 +85,9 @@ fn change(col: &mut [u16], x: u16, less: u16, y: u16, more: u16)
     col[j] = col[j] + more;
 }
 
-// Question 19 of every column of a row: `off` leaves and `on` enters, a sample a column, each row as often as `less` and `more` say.
-// The counts of column c stand from place 256·c on, those of the first `levels` levels are asked.
-pub fn columns_good(
-    counts: &[u16],
-    off: &[u16],
-    less: u16,
-    on: &[u16],
-    more: u16,
-    width: usize,
-    levels: usize,
-    most: u16,
-) -> bool
-    requires { ⌜ ColumnsFit width levels (length (now counts)) (length (now off)) (length (now on)) ⌝ }
-    ensures { λ g. ⌜ g ≡ all width (columnGoodAt levels most (now (counts .entry)) (now (off .entry)) less (now (on .entry)) more) ⌝ }
-{
-    let mut c = 0;
-    while c < width {
-        let at = c * 256;
-        if !column_good(&counts[at..at + levels], off[c], less, on[c], more, most) {
-            return false;
-        }
-        c += 1;
-    }
-    true
-}
-
-// Both steps of every column of a row.
-pub fn move_columns(counts: &mut [u16], off: &[u16], less: u16, on: &[u16], more: u16, width: usize)
+// Both steps of the first columns of a row: `off` leaves and `on` enters, a sample a column, each row as often as `less` and `more` say.
+// The counts of column c stand from place 256·c on.
+fn move_columns(counts: &mut [u16], off: &[u16], less: u16, on: &[u16], more: u16, width: usize)
     requires { ⌜ MoveFits width (now counts) (now off) less (now on) more ⌝ }
     ensures { λ _. ⌜ now (counts .exit)
         ≡ grid width 256 (movedAt (now (counts .entry)) (now (off .entry)) less (now (on .entry)) more)
@@ -123,4 +99,36 @@ pub fn move_columns(counts: &mut [u16], off: &[u16], less: u16, on: &[u16], more
         change(&mut counts[at..at + 256], off[c], less, on[c], more);
         c += 1;
     }
+}
+
+// Question 19 of every column of a row, asked of the first `levels` levels, and both steps of each: `off` leaves and `on` enters. Where a
+// column is not good, those before it are moved back: what entered them leaves, and what left them enters. One pass over the counts is
+// faster than one that asks and one that moves.
+pub fn take_columns(
+    counts: &mut [u16],
+    off: &[u16],
+    less: u16,
+    on: &[u16],
+    more: u16,
+    width: usize,
+    levels: usize,
+    most: u16,
+) -> bool
+    requires { ⌜ TakeFits width levels most (length (now counts)) (length (now off)) less (length (now on)) more ⌝ }
+    ensures { λ g. ⌜ g ≡ all width (columnGoodAt levels most (now (counts .entry)) (now (off .entry)) less (now (on .entry)) more) ⌝ }
+    ensures { λ g. ⌜ now (counts .exit)
+        ≡ cond g (grid width 256 (movedAt (now (counts .entry)) (now (off .entry)) less (now (on .entry)) more)
+        ++ drop (width * 256) (now (counts .entry))) (now (counts .entry)) ⌝ }
+{
+    let mut c = 0;
+    while c < width {
+        let at = c * 256;
+        if !column_good(&counts[at..at + levels], off[c], less, on[c], more, most) {
+            move_columns(counts, on, more, off, less, c);
+            return false;
+        }
+        change(&mut counts[at..at + 256], off[c], less, on[c], more);
+        c += 1;
+    }
+    true
 }

@@ -5,7 +5,6 @@ mod columns;
 mod finding;
 mod sliding;
 
-pub use columns::columns_good;
-pub use columns::move_columns;
+pub use columns::take_columns;
 pub use finding::find;
 pub use sliding::slide;

@@ -1,62 +1,33 @@
 -- `levels::move_columns` changes column after column; each is lent as its part of the store and comes back changed.
 -- Assumes nothing.
-use Prim.Native.Nat.{ℕ, _+_, _-_, _*_, _≤_}
-use native.Mathlib.Nat.{mul-le-mul-right}
-use native.Mathlib.Omega.{arith}
-use mathlib.Core.Path.{_≡_, refl, sym, ap, _∙_}
-use mathlib.Core.List.{List, _++_}
-use lib.ListN.{length, getD, drop}
-use Rattle.arith.specs.Tab.{grid}
-use Rattle.arith.proofs.Grids.{grid-next, grid-long, next-line}
-use Rattle.arith.proofs.Parts.{line-end}
-use Rattle.arith.proofs.Passes.{grid-none}
-use Rattle.levels.specs.Levels.{countAt, movedCount, movedAt}
-use Rattle.levels.proofs.Changes.{moved-same, part-changed, part-fits}
+use Prim.Native.Nat.{_+_, _-_, _*_, _≤_}
+use lib.ListN.{length, getD}
+use Rattle.levels.proofs.Lines.{Columns, none-moved, ends, next-fits, next-moved, all-moved}
 use borrow.Author.Needs.{needs}
 use Rattle.levels.proofs.columns.move_columns.Statement.{statement}
 use Rattle.levels.proofs.columns.move_columns.Tie as tie
 
--- the first c columns are done
-record Columns (width : ℕ) (f : ℕ → ℕ → ℕ) (counts₀ : List ℕ) (c : ℕ) (counts : List ℕ) : Type 0 where
-  count : c ≤ width
-  long : length counts ≡ length counts₀
-  is : counts ≡ grid c 256 f ++ drop (c * 256) counts₀
-
 abbrev Inv-loop : tie.InvT-loop
-Inv-loop counts₀ off less on more width c₀ counts c = Columns width (movedAt counts₀ off less on more) counts₀ c counts
+Inv-loop counts₀ off less on more width c₀ counts c = Columns width counts₀ off less on more c counts
 
 abbrev μ-loop : tie.MeasureT-loop
 μ-loop counts₀ off less on more width c₀ counts c = width - c
 
 -- column c ends within the store
-ends : (c : tie.In-loop Inv-loop μ-loop) → c .before .loop .c * 256 + 256 ≤ length (c .before .loop .counts)
-ends c =
-    let l = c .before .loop in
-    let p = c .before .before .before .before .before .pre in
-    let e = line-end (l .c) _ 256 _ (c .loop-test .taken) (p .counts-long) in
-    let n = l .inv .long in
-    omega arith
-
--- its counts are still those that were there
-untouched : (c : tie.In-loop Inv-loop μ-loop) (v : ℕ)
-    → countAt (c .before .loop .counts) (c .before .loop .c) v ≡ countAt (c .before .before .before .before .before .args .counts .now) (c .before .loop .c) v
-untouched c v =
-    let l = c .before .loop in
-    ap (λ xs. getD xs (l .c * 256 + v) 0) (l .inv .is) ∙ grid-next (l .c) 256 _ (c .before .before .before .before .before .args .counts .now) v
+whole : (c : tie.In-loop Inv-loop μ-loop) → c .before .loop .c * 256 + 256 ≤ length (c .before .loop .counts)
+whole c = ends _ _ _ _ _ _ (c .before .loop .inv) (c .before .before .before .before .before .pre .counts-long) (c .loop-test .taken)
 
 loop-holds : tie.Need-loop-holds Inv-loop μ-loop
-loop-holds c =
-    let a = c .before .before .before .args in
-    record { count = search needs; long = refl; is = grid-none 256 _ (a .counts .now) }
+loop-holds c = none-moved _ _ _ _ _ _
 
 mul-at : tie.Need-mul-at Inv-loop μ-loop
-mul-at c = let h = ends c in search (needs, h)
+mul-at c = let h = whole c in search (needs, h)
 
 add-change : tie.Need-add-change Inv-loop μ-loop
-add-change c = let h = ends c in search (needs, h)
+add-change c = let h = whole c in search (needs, h)
 
 mul-change : tie.Need-mul-change Inv-loop μ-loop
-mul-change c = let h = ends c in search (needs, h)
+mul-change c = let h = whole c in search (needs, h)
 
 sub-change : tie.Need-sub-change Inv-loop μ-loop
 sub-change c = search needs
@@ -65,7 +36,7 @@ part-change-start : tie.Need-part-change-start Inv-loop μ-loop
 part-change-start c = search needs
 
 part-change-end : tie.Need-part-change-end Inv-loop μ-loop
-part-change-end c = ends c
+part-change-end c = whole c
 
 mul-change-2 : tie.Need-mul-change-2 Inv-loop μ-loop
 mul-change-2 c = search needs
@@ -83,15 +54,8 @@ change-requires : tie.Need-change-requires Inv-loop μ-loop
 change-requires c κs =
     let i = c .before .before .before in
     let s = i .before .before .before .before .before in
-    let a = s .args in
-    let k = i .before .loop .c in
-    let f = s .pre .each k (i .loop-test .taken) in
-    part-fits (i .before .loop .counts) k 256 (ends i) record {
-      off-level = f .off-level;
-      on-level = f .on-level;
-      counted = rw (untouched i (getD (a .off .now) k 0)) (f .counted);
-      room = rw (untouched i (getD (a .on .now) k 0)) (f .room);
-    }
+    let t = i .loop-test .taken in
+    next-fits _ _ _ _ _ _ (i .before .loop .inv) (s .pre .counts-long) t (s .pre .each (i .before .loop .c) t)
 
 add-c : tie.Need-add-c Inv-loop μ-loop
 add-c c = search needs
@@ -103,31 +67,13 @@ loop-again : tie.Need-loop-again Inv-loop μ-loop
 loop-again c =
     let i = c .before .before .before .before .before .before in
     let s = i .before .before .before .before .before in
-    let a = s .args in
-    let l = i .before .loop in
-    let k = l .c in
-    let f = movedAt (a .counts .now) (a .off .now) (a .less) (a .on .now) (a .more) in
-    let t = i .loop-test .taken in
-    let next =
-    part-changed (l .counts) k 256 (ends i) (getD (a .off .now) k 0) (a .less) (getD (a .on .now) k 0) (a .more) (c .before .before .change .ensures)
-    ∙ next-line k 256 f (a .counts .now) {g = movedCount (countAt (l .counts) k) (getD (a .off .now) k 0) (a .less) (getD (a .on .now) k 0) (a .more)} (l .inv .is)
-    (λ v. moved-same (countAt (l .counts) k) (countAt (a .counts .now) k) (getD (a .off .now) k 0) (a .less) (getD (a .on .now) k 0) (a .more) v (untouched i v)) in
-    record {
-      count = omega arith;
-      long = ap length next ∙ grid-long (k + 1) 256 f (a .counts .now) (let p = s .pre .counts-long in let m = mul-le-mul-right 256 t in omega arith);
-      is = next;
-    }
+    next-moved _ _ _ _ _ _ (i .before .loop .inv) (s .pre .counts-long) (i .loop-test .taken) (c .before .before .change .ensures)
 
 same-length : tie.Need-same-length Inv-loop μ-loop
 same-length c = search needs
 
 returns : tie.Need-returns Inv-loop μ-loop
-returns c =
-    let l = c .before .loop in
-    let a = c .before .before .before .before .before .args in
-    let n = l .inv .count in
-    let e : l .c ≡ a .width = let t = c .loop-test .left in omega arith in
-    l .inv .is ∙ ap (λ k. grid k 256 (movedAt (a .counts .now) (a .off .now) (a .less) (a .on .now) (a .more)) ++ drop (k * 256) (a .counts .now)) e
+returns c = all-moved _ _ _ _ _ _ (c .before .loop .inv) (c .loop-test .left)
 
 pub move-columns-spec : {M : Type 1} → statement M
 move-columns-spec =
