@@ -26,6 +26,7 @@ pub digits-name : (t : List ℕ) (n : ℕ) → wordOf t ≡ Number n → command
 unfolding commandOf nextOf endedOf
 digits-name t n h = rw h refl
 
-median : commandOf (Filter false 0) 1 (ascii "--rank" ∷ ascii "5" ∷ ascii "3" ∷ ascii "1" ∷ []) ≡ Ranked false (record { given = 3; rank = 5; rows = 3; columns = 1 })
+ranked-words : commandOf (Filter false 0) 1 (ascii "--rank" ∷ ascii "5" ∷ ascii "3" ∷ ascii "1" ∷ [])
+    ≡ Ranked false (record { given = 3; rank = 5; rows = 3; columns = 1 })
 unfolding ascii same digit digits number plainOf wordOf numberedOf nextOf endedOf commandOf
-median = refl
+ranked-words = refl

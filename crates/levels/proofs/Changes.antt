@@ -52,7 +52,8 @@ module _ (col : List ℕ) (x less y more : ℕ) (hx : x < length col) (hy : y < 
   pub changed : set half y (getD half y 0 + more) ≡ tab (length col) (movedCount (countOf col) x less y more)
   unfolding movedCount
   changed =
-      ext-getD 0 (set half y (getD half y 0 + more)) (tab (length col) (movedCount (countOf col) x less y more)) (whole ∙ sym (length-tab (length col) _))
+      ext-getD 0 (set half y (getD half y 0 + more)) (tab (length col) (movedCount (countOf col) x less y more))
+      (whole ∙ sym (length-tab (length col) _))
       (λ v h. put-on half y more v (let n = half-long in omega arith) ∙ ap (λ k. k + one more y v) (taken-off col x less v hx)
       ∙ sym (getD-tab (length col) (movedCount (countOf col) x less y more) v 0 (let n = whole in omega arith)))
     where
@@ -66,7 +67,8 @@ moved-same f g x less y more v e = ap (λ k. k - one less x v + one more y v) e
 
 -- ---- question 19 of a column looks at its own levels only
 
-pub column-cong : (n most : ℕ) {f g : ℕ → ℕ} (x less y more : ℕ) → ((v : ℕ) → v < n → f v ≡ g v) → columnGood n most f x less y more ≡ columnGood n most g x less y more
+pub column-cong : (n most : ℕ) {f g : ℕ → ℕ} (x less y more : ℕ) → ((v : ℕ) → v < n → f v ≡ g v)
+    → columnGood n most f x less y more ≡ columnGood n most g x less y more
 unfolding columnGood movedCount
 column-cong n most {f} {g} x less y more h =
     go (ltb x n) (ltb→lt x n) (all-cong n (λ v l. ap (λ k. leb k most) (moved-same f g x less y more v (h v l))))
@@ -83,7 +85,8 @@ pub entering-decides : (n most : ℕ) (f : ℕ → ℕ) (x less y more : ℕ) �
     → leb (movedCount f x less y more y) most ≡ all n (λ v. leb (movedCount f x less y more v) most)
 unfolding movedCount
 entering-decides n most f x less y more h l =
-    bool-eq _ _ (λ t. all-of n _ (at (leb→le (movedCount f x less y more y) most t))) (λ t. all-at n (λ v. leb (movedCount f x less y more v) most) t y l)
+    bool-eq _ _ (λ t. all-of n _ (at (leb→le (movedCount f x less y more y) most t)))
+    (λ t. all-at n (λ v. leb (movedCount f x less y more v) most) t y l)
   where
     at : movedCount f x less y more y ≤ most → (v : ℕ) → v < n → T (leb (f v - one less x v + one more y v) most)
     at k v p = elim (ℕ-discrete v y) [
@@ -96,7 +99,8 @@ entering-decides n most f x less y more h l =
 module _ (counts : List ℕ) (c n : ℕ) (h : c * 256 + n ≤ length counts) where
   -- the part of n levels that is lent
   pub part-good : (most x less y more : ℕ)
-      → columnGood (length (part (c * 256) n counts)) most (countOf (part (c * 256) n counts)) x less y more ≡ columnGood n most (countAt counts c) x less y more
+      → columnGood (length (part (c * 256) n counts)) most (countOf (part (c * 256) n counts)) x less y more
+      ≡ columnGood n most (countAt counts c) x less y more
   part-good most x less y more =
       ap (λ k. columnGood k most (countOf (part (c * 256) n counts)) x less y more) (part-length (c * 256) n counts h)
       ∙ column-cong n most x less y more (part-at (c * 256) n counts)
@@ -111,7 +115,8 @@ module _ (counts : List ℕ) (c n : ℕ) (h : c * 256 + n ≤ length counts) whe
       (e ∙ ap (λ i. tab i (movedCount (countOf (part (c * 256) n counts)) x less y more)) (part-length (c * 256) n counts h)
       ∙ tab-cong n (λ v l. moved-same (countOf (part (c * 256) n counts)) (countAt counts c) x less y more v (part-at (c * 256) n counts v l)))
 
-  pub part-fits : {x less y more : ℕ} → ChangeFits n (countAt counts c) x less y more → ChangeFits (length (part (c * 256) n counts)) (countOf (part (c * 256) n counts)) x less y more
+  pub part-fits : {x less y more : ℕ} → ChangeFits n (countAt counts c) x less y more
+      → ChangeFits (length (part (c * 256) n counts)) (countOf (part (c * 256) n counts)) x less y more
   part-fits {x} {less} {y} {more} f =
       let e = part-length (c * 256) n counts h in
       record {

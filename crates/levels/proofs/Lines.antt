@@ -5,15 +5,16 @@ use native.Mathlib.Nat.{mul-le-mul-right}
 use native.Mathlib.Omega.{arith}
 use mathlib.Core.Path.{_≡_, refl, ap, ap₂, _∙_}
 use mathlib.Core.List.{List, _++_}
+use lib.Dec.{T}
 use lib.ListN.{length, getD, drop}
 use borrow.Rule.Slice.PartMut.{putMid}
 use Rattle.arith.specs.Tab.{tab, grid}
 use Rattle.arith.proofs.Grids.{grid-at, grid-cong, grid-long, grid-next, grid-own, next-line}
 use Rattle.arith.proofs.Parts.{line-end, part}
 use Rattle.arith.proofs.Passes.{grid-none, grid-rest}
-use Rattle.levels.specs.Levels.{countOf, countAt, movedCount, movedAt}
+use Rattle.levels.specs.Levels.{countOf, countAt, movedCount, movedAt, columnGoodAt}
 use Rattle.levels.specs.Fits.{ChangeFits, MoveFits}
-use Rattle.levels.proofs.Changes.{moved-same, part-changed, part-fits, GoodColumn, moved-back, back-fits}
+use Rattle.levels.proofs.Changes.{moved-same, part-changed, part-fits, GoodColumn, good-column, good-fits, moved-back, back-fits}
 
 module _ (width : ℕ) (counts₀ off : List ℕ) (less : ℕ) (on : List ℕ) (more : ℕ) where
   abbrev after : ℕ → ℕ → ℕ
@@ -49,6 +50,12 @@ module _ (width : ℕ) (counts₀ off : List ℕ) (less : ℕ) (on : List ℕ) (
             room = rw (untouched (getD on c 0)) (f .room);
           }
 
+      -- as they can where the column is good
+      pub good-next : (levels most : ℕ) → T (columnGoodAt levels most counts₀ off less on more c) → levels ≤ 256 → most ≤ 255 → less ≤ 1 → more ≤ 1
+          → ChangeFits (length (part (c * 256) 256 counts)) (countOf (part (c * 256) 256 counts)) (getD off c 0) less (getD on c 0) more
+      good-next levels most t few small p q =
+          next-fits (good-fits (good-column levels most (countAt counts₀ c) (getD off c 0) less (getD on c 0) more t) few small p q)
+
       -- one column more
       pub next-moved : {ys : List ℕ}
           → ys ≡ tab (length (part (c * 256) 256 counts)) (movedCount (countOf (part (c * 256) 256 counts)) (getD off c 0) less (getD on c 0) more)
@@ -69,7 +76,11 @@ module _ (width : ℕ) (counts₀ off : List ℕ) (less : ℕ) (on : List ℕ) (
     all-moved l = let n = h .count in let e : c ≡ width = omega arith in h .is ∙ ap (λ k. grid k 256 after ++ drop (k * 256) counts₀) e
 
     -- ---- back again, where the columns were good
-    module _ {levels most : ℕ} (fit : width * 256 ≤ length counts₀) (good : (k : ℕ) → k < c → GoodColumn levels most (countAt counts₀ k) (getD off k 0) less (getD on k 0) more) where
+    module _ (levels most : ℕ) (fit : width * 256 ≤ length counts₀)
+        (asked : (k : ℕ) → k < c → T (columnGoodAt levels most counts₀ off less on more k)) where
+      good : (k : ℕ) → k < c → GoodColumn levels most (countAt counts₀ k) (getD off k 0) less (getD on k 0) more
+      good k l = good-column levels most (countAt counts₀ k) (getD off k 0) less (getD on k 0) more (asked k l)
+
       within : c * 256 ≤ length counts₀
       within = let m = mul-le-mul-right 256 (h .count) in omega arith
 

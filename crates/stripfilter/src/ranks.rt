@@ -21,14 +21,14 @@ use rank::Window;
 use streams::gather;
 
 // The scan after a row, whether more are to be read, and whether output can still be written.
-pub struct Turn {
+pub struct RankTurn {
     pub scan: RankScan,
     pub more: bool,
     pub writable: bool,
 }
 
-fn turned(scan: RankScan, more: bool, writable: bool) -> Turn {
-    Turn {
+fn turned(scan: RankScan, more: bool, writable: bool) -> RankTurn {
+    RankTurn {
         scan,
         more,
         writable,
@@ -36,13 +36,13 @@ fn turned(scan: RankScan, more: bool, writable: bool) -> Turn {
 }
 
 // Stops at a fault, which is said.
-fn faulty(scan: RankScan, fault: Fault) -> Turn {
+fn faulty(scan: RankScan, fault: Fault) -> RankTurn {
     output::report(b"scan", fault);
     turned(scan, false, true)
 }
 
 // A filtered row goes out.
-fn written(plan: Plan, scan: RankScan, levels: &[i32]) -> Turn
+fn written(plan: Plan, scan: RankScan, levels: &[i32]) -> RankTurn
     requires { ⌜ Accepts (plan .job) ⌝ }
 {
     let done = output::rows(plan, levels, 1);
@@ -57,7 +57,7 @@ fn one_row(
     samples: &mut [u16],
     counts: &mut [u16],
     windows: &mut [u16],
-) -> Turn
+) -> RankTurn
     requires { ⌜ Accepts (plan .job) ⌝ }
 {
     let mut out = [0i32; 1024];
@@ -79,7 +79,7 @@ fn row(
     samples: &mut [u16],
     counts: &mut [u16],
     windows: &mut [u16],
-) -> Turn
+) -> RankTurn
     requires { ⌜ Accepts (plan .job) ⌝ }
 {
     let mut space = [0u16; 1024];
@@ -100,7 +100,7 @@ fn rows(
     samples: &mut [u16],
     counts: &mut [u16],
     windows: &mut [u16],
-) -> Turn
+) -> RankTurn
     requires { ⌜ Accepts (plan .job) ⌝ }
 {
     let need = plan.job.need;
@@ -132,7 +132,7 @@ fn one_step(
     samples: &mut [u16],
     counts: &mut [u16],
     windows: &mut [u16],
-) -> Turn
+) -> RankTurn
     requires { ⌜ Accepts (plan .job) ⌝ }
 {
     let mut out = [0i32; 1024];

@@ -59,7 +59,9 @@ returns-3 c =
     let z = c .before .before .before .if1 .left in
     let l = toZ-ofZ {w = w8} (record { sfits = c .before .signed-byte .ok }) ∙ c .before .signed-byte .ensures in
     let r = toZ-ofZ {w = w8} (record { sfits = c .signed-byte2 .ok }) ∙ c .signed-byte2 .ensures in
-    rw (le-leb 1 n (omega arith), le-leb n 31 t, l, r, ahead (n / 2) (omega arith), behind (n - n / 2) (256 + n / 2 - n) (omega arith) (omega arith) (omega arith)) refl
+    let up = ahead (n / 2) (omega arith) in
+    let down = behind (n - n / 2) (256 + n / 2 - n) (omega arith) (omega arith) (omega arith) in
+    rw (le-leb 1 n (omega arith), le-leb n 31 t, l, r, up, down) refl
 
 pub centred-spec : {M : Type 1} → statement M
 centred-spec =

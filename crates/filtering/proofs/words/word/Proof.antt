@@ -32,7 +32,12 @@ same-requires-2 c κs = search needs
 
 returns-2 : tie.Need-returns-2
 unfolding ascii wordOf
-returns-2 c = rw (no-is (c .before .before .before .before .same .ensures) (c .before .before .before .if1 .left), yes-is (c .before .same2 .ensures) (c .if2 .taken)) refl
+returns-2 c =
+    let e1 = c .before .before .before in
+    rw (
+      no-is (e1 .before .same .ensures) (e1 .if1 .left),
+      yes-is (c .before .same2 .ensures) (c .if2 .taken),
+    ) refl
 
 slice-aggregate-same-3 : tie.Need-slice-aggregate-same-3
 slice-aggregate-same-3 c = search needs
@@ -42,7 +47,14 @@ same-requires-3 c κs = search needs
 
 returns-3 : tie.Need-returns-3
 unfolding ascii wordOf
-returns-3 c = rw (no-is (c .before .before .before .before .before .before .before .same .ensures) (c .before .before .before .before .before .before .if1 .left), no-is (c .before .before .before .before .same2 .ensures) (c .before .before .before .if2 .left), yes-is (c .before .same3 .ensures) (c .if3 .taken)) refl
+returns-3 c =
+    let e2 = c .before .before .before in
+    let e1 = e2 .before .before .before in
+    rw (
+      no-is (e1 .before .same .ensures) (e1 .if1 .left),
+      no-is (e2 .before .same2 .ensures) (e2 .if2 .left),
+      yes-is (c .before .same3 .ensures) (c .if3 .taken),
+    ) refl
 
 slice-aggregate-same-4 : tie.Need-slice-aggregate-same-4
 slice-aggregate-same-4 c = search needs
@@ -52,7 +64,16 @@ same-requires-4 c κs = search needs
 
 returns-4 : tie.Need-returns-4
 unfolding ascii wordOf
-returns-4 c = rw (no-is (c .before .before .before .before .before .before .before .before .before .before .same .ensures) (c .before .before .before .before .before .before .before .before .before .if1 .left), no-is (c .before .before .before .before .before .before .before .same2 .ensures) (c .before .before .before .before .before .before .if2 .left), no-is (c .before .before .before .before .same3 .ensures) (c .before .before .before .if3 .left), yes-is (c .before .same4 .ensures) (c .if4 .taken)) refl
+returns-4 c =
+    let e3 = c .before .before .before in
+    let e2 = e3 .before .before .before in
+    let e1 = e2 .before .before .before in
+    rw (
+      no-is (e1 .before .same .ensures) (e1 .if1 .left),
+      no-is (e2 .before .same2 .ensures) (e2 .if2 .left),
+      no-is (e3 .before .same3 .ensures) (e3 .if3 .left),
+      yes-is (c .before .same4 .ensures) (c .if4 .taken),
+    ) refl
 
 slice-aggregate-same-5 : tie.Need-slice-aggregate-same-5
 slice-aggregate-same-5 c = search needs
@@ -62,14 +83,37 @@ same-requires-5 c κs = search needs
 
 returns-5 : tie.Need-returns-5
 unfolding ascii wordOf
-returns-5 c = rw (no-is (c .before .before .before .before .before .before .before .before .before .before .before .before .before .same .ensures) (c .before .before .before .before .before .before .before .before .before .before .before .before .if1 .left), no-is (c .before .before .before .before .before .before .before .before .before .before .same2 .ensures) (c .before .before .before .before .before .before .before .before .before .if2 .left), no-is (c .before .before .before .before .before .before .before .same3 .ensures) (c .before .before .before .before .before .before .if3 .left), no-is (c .before .before .before .before .same4 .ensures) (c .before .before .before .if4 .left), yes-is (c .before .same5 .ensures) (c .if5 .taken)) refl
+returns-5 c =
+    let e4 = c .before .before .before in
+    let e3 = e4 .before .before .before in
+    let e2 = e3 .before .before .before in
+    let e1 = e2 .before .before .before in
+    rw (
+      no-is (e1 .before .same .ensures) (e1 .if1 .left),
+      no-is (e2 .before .same2 .ensures) (e2 .if2 .left),
+      no-is (e3 .before .same3 .ensures) (e3 .if3 .left),
+      no-is (e4 .before .same4 .ensures) (e4 .if4 .left),
+      yes-is (c .before .same5 .ensures) (c .if5 .taken),
+    ) refl
 
 plain-requires : tie.Need-plain-requires
 plain-requires c κs = search needs
 
 returns-6 : tie.Need-returns-6
 unfolding ascii wordOf
-returns-6 c = rw (no-is (c .before .before .before .before .before .before .before .before .before .before .before .before .before .before .same .ensures) (c .before .before .before .before .before .before .before .before .before .before .before .before .before .if1 .left), no-is (c .before .before .before .before .before .before .before .before .before .before .before .same2 .ensures) (c .before .before .before .before .before .before .before .before .before .before .if2 .left), no-is (c .before .before .before .before .before .before .before .before .same3 .ensures) (c .before .before .before .before .before .before .before .if3 .left), no-is (c .before .before .before .before .before .same4 .ensures) (c .before .before .before .before .if4 .left), no-is (c .before .before .same5 .ensures) (c .before .if5 .left)) (c .plain .ensures)
+returns-6 c =
+    let e5 = c .before in
+    let e4 = e5 .before .before .before in
+    let e3 = e4 .before .before .before in
+    let e2 = e3 .before .before .before in
+    let e1 = e2 .before .before .before in
+    rw (
+      no-is (e1 .before .same .ensures) (e1 .if1 .left),
+      no-is (e2 .before .same2 .ensures) (e2 .if2 .left),
+      no-is (e3 .before .same3 .ensures) (e3 .if3 .left),
+      no-is (e4 .before .same4 .ensures) (e4 .if4 .left),
+      no-is (e5 .before .same5 .ensures) (e5 .if5 .left),
+    ) (c .plain .ensures)
 
 pub word-spec : {M : Type 1} → statement M
 word-spec =

@@ -74,7 +74,8 @@ returns c =
     record {
       answer =
           e .0
-          ∙ ap₂ (λ n k. all (a .a .width) (columnGoodAt n k (a .counts .now) (a .off .now) (a .less) (a .on .now) (a .more))) (levels-are r) (r .rows .ensures .0);
+          ∙ ap₂ (λ n k. all (a .a .width) (columnGoodAt n k (a .counts .now) (a .off .now) (a .less) (a .on .now) (a .more)))
+          (levels-are r) (r .rows .ensures .0);
       moved = yes-is _ _ _ (m .take-columns .result) (e .1);
       kept = no-is _ _ _ (m .take-columns .result) (e .1);
       long = both-long _ _ _ (m .take-columns .result) (e .1) (grid-long (a .a .width) 256 _ (a .counts .now) (z .pre .counts-long));

@@ -9,9 +9,9 @@ use lib.ListN.{length, getD}
 use borrow.Author.Tests.{not-true, not-false}
 use Rattle.arith.proofs.Alls.{up-to, all-of, all-fails}
 use Rattle.arith.proofs.Bools.{true-of}
-use Rattle.levels.specs.Levels.{countAt, columnGoodAt}
-use Rattle.levels.proofs.Changes.{part-good, column-cong, good-column, good-fits}
-use Rattle.levels.proofs.Lines.{Columns, none-moved, untouched, ends, next-fits, next-moved, all-moved, all-back, back-all-fit}
+use Rattle.levels.specs.Levels.{columnGoodAt}
+use Rattle.levels.proofs.Changes.{part-good, column-cong}
+use Rattle.levels.proofs.Lines.{Columns, none-moved, untouched, ends, good-next, next-moved, all-moved, all-back, back-all-fit}
 use borrow.Author.Needs.{needs}
 use Rattle.levels.proofs.columns.take_columns.Statement.{statement}
 use Rattle.levels.proofs.columns.take_columns.Tie as tie
@@ -28,19 +28,23 @@ abbrev μ-loop : tie.MeasureT-loop
 whole : (c : tie.In-loop Inv-loop μ-loop) → c .before .loop .c * 256 + 256 ≤ length (c .before .loop .counts)
 whole c = ends _ _ _ _ _ _ (c .before .loop .inv .0) (c .before .before .before .before .before .pre .counts-long) (c .loop-test .taken)
 
-levels-end : (c : tie.In-loop Inv-loop μ-loop) → c .before .loop .c * 256 + c .before .before .before .before .before .args .levels ≤ length (c .before .loop .counts)
+levels-end : (c : tie.In-loop Inv-loop μ-loop)
+    → c .before .loop .c * 256 + c .before .before .before .before .before .args .levels ≤ length (c .before .loop .counts)
 levels-end c = let f = c .before .before .before .before .before .pre .few in let h = whole c in omega arith
 
 -- what is asked of the part is asked of the column as it was
-asked : (c : tie.After-column-good Inv-loop μ-loop) → let a = c .before .before .before .before .before .before .before .before .before .before .args in c .column-good .result ≡ columnGoodAt (a .levels) (a .most) (a .counts .now) (a .off .now) (a .less) (a .on .now) (a .more) (c .before .before .before .before .before .before .loop .c)
+asked : (c : tie.After-column-good Inv-loop μ-loop)
+    → let i = c .before .before .before .before .before in let a = i .before .before .before .before .before .args in
+    c .column-good .result ≡ columnGoodAt (a .levels) (a .most) (a .counts .now) (a .off .now) (a .less) (a .on .now) (a .more) (i .before .loop .c)
 asked c =
     let i = c .before .before .before .before .before in
     let l = i .before .loop in
     let a = i .before .before .before .before .before .args in
-    let k = l .c in
+    let x = getD (a .off .now) (l .c) 0 in
+    let y = getD (a .on .now) (l .c) 0 in
     c .column-good .ensures
-    ∙ part-good (l .counts) k (a .levels) (levels-end i) (a .most) (getD (a .off .now) k 0) (a .less) (getD (a .on .now) k 0) (a .more)
-    ∙ column-cong (a .levels) (a .most) (getD (a .off .now) k 0) (a .less) (getD (a .on .now) k 0) (a .more) (λ v p. untouched _ _ _ _ _ _ (l .inv .0) v)
+    ∙ part-good (l .counts) (l .c) (a .levels) (levels-end i) (a .most) x (a .less) y (a .more)
+    ∙ column-cong (a .levels) (a .most) x (a .less) y (a .more) (λ v p. untouched _ _ _ _ _ _ (l .inv .0) v)
 
 loop-holds : tie.Need-loop-holds Inv-loop μ-loop
 loop-holds c = (none-moved _ _ _ _ _ _, λ k l. absurd (not-suc-le-zero l))
@@ -83,9 +87,8 @@ move-columns-requires c κs =
     let i = c .before .before .before .before .before .before .before in
     let l = i .before .loop in
     let s = i .before .before .before .before .before in
-    let a = s .args in
     let p = s .pre in
-    back-all-fit _ _ _ _ _ _ (l .inv .0) (p .counts-long) (λ k h. good-column (a .levels) (a .most) (countAt (a .counts .now) k) (getD (a .off .now) k 0) (a .less) (getD (a .on .now) k 0) (a .more) (l .inv .1 k h))
+    back-all-fit _ _ _ _ _ _ (l .inv .0) (s .args .levels) (s .args .most) (p .counts-long) (l .inv .1)
     (p .few) (p .small) (p .less-most) (p .off-long) (p .on-long)
 
 same-length : tie.Need-same-length Inv-loop μ-loop
@@ -97,10 +100,11 @@ returns c =
     let i = e .before .before .before .before .before in
     let l = i .before .loop in
     let s = i .before .before .before .before .before in
-    let a = s .args in (
-      sym (all-fails (a .width) (columnGoodAt (a .levels) (a .most) (a .counts .now) (a .off .now) (a .less) (a .on .now) (a .more)) (l .c) (i .loop-test .taken) (sym (asked e) ∙ not-true _ (c .before .before .before .before .if1 .taken))),
-      c .before .before .move-columns .ensures
-          ∙ all-back _ _ _ _ _ _ (l .inv .0) (s .pre .counts-long) (λ k h. good-column (a .levels) (a .most) (countAt (a .counts .now) k) (getD (a .off .now) k 0) (a .less) (getD (a .on .now) k 0) (a .more) (l .inv .1 k h)),
+    let a = s .args in
+    let no = sym (asked e) ∙ not-true _ (c .before .before .before .before .if1 .taken) in (
+      sym (all-fails (a .width) (columnGoodAt (a .levels) (a .most) (a .counts .now) (a .off .now) (a .less) (a .on .now) (a .more))
+          (l .c) (i .loop-test .taken) no),
+      c .before .before .move-columns .ensures ∙ all-back _ _ _ _ _ _ (l .inv .0) (a .levels) (a .most) (s .pre .counts-long) (l .inv .1),
     )
 
 add-change : tie.Need-add-change Inv-loop μ-loop
@@ -138,10 +142,8 @@ change-requires c κs =
     let s = i .before .before .before .before .before in
     let a = s .args in
     let p = s .pre in
-    let k = l .c in
     let t = subst T (sym (not-false _ (c .before .before .before .if1 .left)) ∙ asked e) tt in
-    next-fits _ _ _ _ _ _ (l .inv .0) (p .counts-long) (i .loop-test .taken)
-    (good-fits (good-column (a .levels) (a .most) (countAt (a .counts .now) k) (getD (a .off .now) k 0) (a .less) (getD (a .on .now) k 0) (a .more) t) (p .few) (p .small) (p .less-most) (p .more-most))
+    good-next _ _ _ _ _ _ (l .inv .0) (p .counts-long) (i .loop-test .taken) (a .levels) (a .most) t (p .few) (p .small) (p .less-most) (p .more-most)
 
 add-c : tie.Need-add-c Inv-loop μ-loop
 add-c c = search needs
@@ -155,9 +157,10 @@ loop-again c =
     let i = e .before .before .before .before .before in
     let l = i .before .loop in
     let s = i .before .before .before .before .before in
-    let a = s .args in (
+    let a = s .args in
+    let t = subst T (sym (not-false _ (c .before .before .before .before .before .before .if1 .left)) ∙ asked e) tt in (
       next-moved _ _ _ _ _ _ (l .inv .0) (s .pre .counts-long) (i .loop-test .taken) (c .before .before .change .ensures),
-      up-to {P = λ k. T (columnGoodAt (a .levels) (a .most) (a .counts .now) (a .off .now) (a .less) (a .on .now) (a .more) k)} (l .c) (l .inv .1) (subst T (sym (not-false _ (c .before .before .before .before .before .before .if1 .left)) ∙ asked e) tt),
+      up-to {P = λ k. T (columnGoodAt (a .levels) (a .most) (a .counts .now) (a .off .now) (a .less) (a .on .now) (a .more) k)} (l .c) (l .inv .1) t,
     )
 
 same-length-2 : tie.Need-same-length-2 Inv-loop μ-loop
@@ -167,10 +170,10 @@ returns-2 : tie.Need-returns-2 Inv-loop μ-loop
 returns-2 c =
     let l = c .before .loop in
     let a = c .before .before .before .before .before .args in
-    let n = c .loop-test .left in (
-      sym (true-of _ (all-of (a .width) (columnGoodAt (a .levels) (a .most) (a .counts .now) (a .off .now) (a .less) (a .on .now) (a .more)) (λ k h. l .inv .1 k (omega arith)))),
-      all-moved _ _ _ _ _ _ (l .inv .0) n,
-    )
+    let n = c .loop-test .left in
+    let good = all-of (a .width) (columnGoodAt (a .levels) (a .most) (a .counts .now) (a .off .now) (a .less) (a .on .now) (a .more))
+    (λ k h. l .inv .1 k (omega arith)) in
+    (sym (true-of _ good), all-moved _ _ _ _ _ _ (l .inv .0) n)
 
 pub take-columns-spec : {M : Type 1} → statement M
 take-columns-spec =

@@ -57,34 +57,52 @@ slice-reshare-prefix-row c = search needs
 
 slice-aggregate-row : tie.Need-slice-aggregate-row Inv-loop μ-loop
 slice-aggregate-row c =
-    let k = c .before .before .before .before .before .gather .kept .1 .0 in
-    let i = c .before .before .before .before .before .before .before .before .before .loop .inv .0 in
-    let h = c .before .before .before .before .before .before .before .before .before .before .before .before .before .before .before .before .pre .most in
+    let g = c .before .before .before .before .before in
+    let l = g .before .before .before .before in
+    let k = g .gather .kept .1 .0 in
+    let i = l .loop .inv .0 in
+    let h = l .before .before .before .before .before .before .before .pre .most in
     sym (length-take-le _ _ (omega arith))
 
 row-requires : tie.Need-row-requires Inv-loop μ-loop
 row-requires c κs = search needs
 
 same-length-4 : tie.Need-same-length-4 Inv-loop μ-loop
-same-length-4 c = c .before .before .before .before .before .before .before .before .before .row .kept .1 .1 .1 .0 ∙ c .before .before .before .before .before .before .before .before .before .before .before .before .before .before .before .before .before .before .before .before .before .before .loop .inv .1
+same-length-4 c =
+    let r = c .before .before .before .before .before .before .before .before .before in
+    let e = r .before .before .before .before .before in
+    r .row .kept .1 .1 .1 .0 ∙ e .before .before .before .before .before .before .before .before .loop .inv .1
 
 same-length-5 : tie.Need-same-length-5 Inv-loop μ-loop
-same-length-5 c = c .before .before .before .before .before .before .before .before .before .row .kept .1 .1 .1 .1 .0 ∙ c .before .before .before .before .before .before .before .before .before .before .before .before .before .before .before .before .before .before .before .before .before .before .loop .inv .2
+same-length-5 c =
+    let r = c .before .before .before .before .before .before .before .before .before in
+    let e = r .before .before .before .before .before in
+    r .row .kept .1 .1 .1 .1 .0 ∙ e .before .before .before .before .before .before .before .before .loop .inv .2
 
 same-length-6 : tie.Need-same-length-6 Inv-loop μ-loop
-same-length-6 c = c .before .before .before .before .before .before .before .before .before .row .kept .1 .1 .1 .1 .1 .0 ∙ c .before .before .before .before .before .before .before .before .before .before .before .before .before .before .before .before .before .before .before .before .before .before .loop .inv .3
+same-length-6 c =
+    let r = c .before .before .before .before .before .before .before .before .before in
+    let e = r .before .before .before .before .before in
+    r .row .kept .1 .1 .1 .1 .1 .0 ∙ e .before .before .before .before .before .before .before .before .loop .inv .3
 
 returns-2 : tie.Need-returns-2 Inv-loop μ-loop
 returns-2 c = search needs
 
 loop-less : tie.Need-loop-less Inv-loop μ-loop
-loop-less c = let t = c .before .before .before .before .before .before .before .before .before .before .before .before .before .before .before .before .before .before .before .before .loop-test .taken in omega arith
+loop-less c =
+    let r = c .before .before .before .before .before .before .before .before in
+    let e = r .before .before .before .before .before in
+    let t = e .before .before .before .before .before .before .before .loop-test .taken in
+    omega arith
 
 loop-again : tie.Need-loop-again Inv-loop μ-loop
 loop-again c =
-    let i = c .before .before .before .before .before .before .before .before .before .before .before .before .before .before .before .before .before .before .before .before .before .loop .inv in
-    let k = c .before .before .before .before .before .before .before .before .row .kept in
-    (c .before .before .before .before .before .before .before .before .before .before .before .before .before .before .before .before .before .gather .kept .1 .0 ∙ i .0, k .1 .1 .1 .0 ∙ i .1, k .1 .1 .1 .1 .0 ∙ i .2, k .1 .1 .1 .1 .1 .0 ∙ i .3)
+    let r = c .before .before .before .before .before .before .before .before in
+    let e = r .before .before .before .before .before in
+    let g = e .before .before .before .before in
+    let i = g .before .before .before .before .loop .inv in
+    let k = r .row .kept in
+    (g .gather .kept .1 .0 ∙ i .0, k .1 .1 .1 .0 ∙ i .1, k .1 .1 .1 .1 .0 ∙ i .2, k .1 .1 .1 .1 .1 .0 ∙ i .3)
 
 same-length-7 : tie.Need-same-length-7 Inv-loop μ-loop
 same-length-7 c = search needs
