@@ -1,5 +1,6 @@
 mod Zero
 mod Edge
 mod Slides
+mod Runs
 mod Rows
 pub mod Counts

@@ -17,7 +17,7 @@ use Rattle.limits.proofs.Bounds.{RectBounds, rect-bounds}
 use Rattle.levels.proofs.Ranks.{ranked-cong}
 use Rattle.histograms.specs.declared.Arrival.{Arrival}
 use Rattle.histograms.specs.declared.windows.Span.{Span}
-use Rattle.histograms.specs.Spans.{spanOf, slidTo, SpanFits, Holds, Written}
+use Rattle.histograms.specs.Spans.{spanOf, slidTo, Zeros, SpanFits, Holds, Written}
 use Rattle.histograms.specs.Parts.{ShowFits, Shown}
 use Rattle.histograms.proofs.Zero.{fewer-zeros}
 use Rattle.histograms.proofs.Slides.{slid-none, slid-window}
@@ -42,7 +42,10 @@ module _ (a : Arrival) {counts zeros windows : List ℕ} {out : ℕ} (f : ShowFi
   few : 2 ^ a .b ≤ 256
   few = levels-most (a .b) (f .bits-most)
 
-  pub span-fits : SpanFits span counts zeros
+  pub zero-columns : Zeros 256 zeros
+  zero-columns = fewer-zeros (f .dark) 256 (omega arith)
+
+  pub span-fits : SpanFits span counts
   span-fits =
       let b = bounds in
       let p = diff-posPart (b .col .lead-is) in
@@ -50,7 +53,8 @@ module _ (a : Arrival) {counts zeros windows : List ℕ} {out : ℕ} (f : ShowFi
       let m = b .col .most in
       let l = b .col .above in
       record {
-        columns = record { few = few; counts-long = f .counts-long; dark = fewer-zeros (f .dark) 256 (omega arith) };
+        few = few;
+        counts-long = f .counts-long;
         behind-most = omega arith;
         ahead-most = omega arith;
         columns-some = b .cols-pos;

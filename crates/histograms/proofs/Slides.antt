@@ -91,7 +91,7 @@ slid-window counts d l n R c u b =
 
 -- ---- one slide of the window store
 
-module _ (s : Span) {counts zeros window off on : List ℕ} (f : SpanFits s counts zeros) (k : ℕ) (h : Holds s counts k window)
+module _ (s : Span) {counts window off on : List ℕ} (f : SpanFits s counts) (k : ℕ) (h : Holds s counts k window)
     (leaves : off ≡ tab (s .levels) (λ u. columnCount counts (s .width) u (subℕ k (s .behind + s .columns))))
     (enters : on ≡ tab (s .levels) (λ u. columnCount counts (s .width) u (subℕ k (s .behind)))) where
   off-at : (u : ℕ) → u < s .levels → countOf off u ≡ framed counts s u k
@@ -141,7 +141,7 @@ holds-list s {counts} {window} k h =
 
 -- ---- the level found in it
 
-module _ (s : Span) {counts zeros window : List ℕ} (f : SpanFits s counts zeros) (k : ℕ) (h : Holds s counts k window) where
+module _ (s : Span) {counts window : List ℕ} (f : SpanFits s counts) (k : ℕ) (h : Holds s counts k window) where
   part-is : (u : ℕ) → u < s .levels → countOf (take (s .levels - 0) window) u ≡ slidTo counts s k u
   part-is u l = getD-take (s .levels - 0) window u 0 (omega arith) ∙ h .each u l
 
@@ -152,7 +152,7 @@ module _ (s : Span) {counts zeros window : List ℕ} (f : SpanFits s counts zero
   find-fits =
       let n = part-long in
       record {
-        few = rw n (f .columns .few);
+        few = rw n (f .few);
         small = λ u i.
             let l : u < s .levels = rw n at i in
             let m = slid-most counts s k u (f .columns-most) (λ j q. f .small j u q l) in

@@ -40,8 +40,9 @@ pub record ColumnFits (width levels counts : ℕ) (zeros : List ℕ) : Type 0 wh
   pub dark : Zeros 256 zeros
 
 -- counts of at most 31 in each column, and 1 to 31 columns
-pub record SpanFits (s : Span) (counts zeros : List ℕ) : Type 0 where
-  pub columns : ColumnFits (s .width) (s .levels) (length counts) zeros
+pub record SpanFits (s : Span) (counts : List ℕ) : Type 0 where
+  pub few : s .levels ≤ 256
+  pub counts-long : s .width * 256 ≤ length counts
   pub behind-most : s .behind ≤ 15
   pub ahead-most : s .ahead ≤ 15
   pub columns-some : 1 ≤ s .columns
@@ -54,6 +55,36 @@ pub record SpanFits (s : Span) (counts zeros : List ℕ) : Type 0 where
 pub record Holds (s : Span) (counts : List ℕ) (k : ℕ) (window : List ℕ) : Type 0 where
   pub long : s .levels ≤ length window
   pub each : (u : ℕ) → u < s .levels → countOf window u ≡ slidTo counts s k u
+
+-- pixels from one to another at which the column that enters and the one that leaves both lie in the row
+pub record Inner (s : Span) (from to : ℕ) : Type 0 where
+  pub order : from ≤ to
+  pub in-row : to ≤ s .width
+  pub leaves-in : from < to → s .behind + s .columns ≤ from + s .ahead
+  pub enters-in : from < to → to + s .ahead ≤ s .width + s .behind
+
+-- pixels from one to another, of an output of n places, with the window store that the first of them finds
+pub record RunFits (s : Span) (counts : List ℕ) (from to n : ℕ) (window : List ℕ) : Type 0 where
+  pub span : SpanFits s counts
+  pub holds : Holds s counts (from + s .ahead) window
+  pub order : from ≤ to
+  pub in-row : to ≤ s .width
+  pub lent : s .width ≤ n
+
+-- ---- what is left
+
+-- the first c levels of the row are in the output o, and the window store w holds the window that the next pixel finds
+pub record Reached (s : Span) (counts : List ℕ) (o : List ℤ) (w : List ℕ) (c : ℕ) (out : List ℤ) (window : List ℕ) : Type 0 where
+  pub row : out ≡ tab c (λ k. ranked (s .levels) (s .rank) (slidTo counts s (k + s .ahead + 1))) ++ drop c o
+  pub long : length out ≡ length o
+  pub is : window ≡ tab (s .levels) (slidTo counts s (c + s .ahead)) ++ drop (s .levels) w
+
+-- pixels from one to another: what was reached at the first is reached at the other
+pub record Carried (s : Span) (counts : List ℕ) (from to : ℕ) (out₀ : List ℤ) (window₀ : List ℕ) (out : List ℤ) (window : List ℕ) : Type 0 where
+  pub holds : Holds s counts (to + s .ahead) window
+  pub out-long : length out ≡ length out₀
+  pub long : length window ≡ length window₀
+  pub carries : (o : List ℤ) (w : List ℕ) → Reached s counts o w from out₀ window₀ → Reached s counts o w to out window
 
 -- what is left of a row: its levels in the output, and beyond the levels the window store as it was
 pub record Written (s : Span) (counts : List ℕ) (out₀ : List ℤ) (window₀ : List ℕ) (out : List ℤ) (window : List ℕ) : Type 0 where

@@ -4,8 +4,8 @@ use Prim.Native.Nat.{_≤_}
 use native.Mathlib.Omega.{arith}
 use mathlib.Core.Path.{_≡_, sym, ap, _∙_, subst}
 use lib.ListN.{length}
-use Rattle.histograms.specs.Spans.{spanOf, SpanFits, Holds, Written}
-use Rattle.histograms.proofs.Rows.{span, span-fits, holds-none, shown}
+use Rattle.histograms.specs.Spans.{spanOf, Zeros, SpanFits, Holds, Written}
+use Rattle.histograms.proofs.Rows.{span, span-fits, zero-columns, holds-none, shown}
 use borrow.Author.Needs.{needs}
 use Rattle.histograms.proofs.arriving.show_row.Statement.{statement}
 use Rattle.histograms.proofs.arriving.show_row.Tie as tie
@@ -26,8 +26,10 @@ span-of-requires c κs = search needs
 write-row-requires : tie.Need-write-row-requires
 write-row-requires c κs =
     let z = c .before .before .before .before .before .before .before in
-    subst (λ s. SpanFits s (z .args .counts .now) (z .args .zeros .now) × Holds s (z .args .counts .now) 0 (z .args .windows .now) × (s .width ≤ length (z .args .out .now))) (sym (span-is c))
-    (span-fits (z .args .a) (z .pre), holds-none (z .args .a) (z .pre), z .pre .lent)
+    let p : Zeros 256 (z .args .zeros .now) = zero-columns (z .args .a) (z .pre) in
+    subst
+    (λ s. SpanFits s (z .args .counts .now) × Holds s (z .args .counts .now) 0 (z .args .windows .now) × (s .width ≤ length (z .args .out .now)) × Zeros 256 (z .args .zeros .now))
+    (sym (span-is c)) (span-fits (z .args .a) (z .pre), holds-none (z .args .a) (z .pre), z .pre .lent, p)
 
 zero-samples-requires : tie.Need-zero-samples-requires
 zero-samples-requires c κs =

@@ -29,7 +29,7 @@ next-window-requires : tie.Need-next-window-requires Inv-loop μ-loop
 next-window-requires c κs =
     let l = c .before .before in
     let z = l .before .before .before .before in
-    (z .pre .0, holds-next (z .args .s) (l .loop .k) (z .args .window .now) (z .pre .1 .long) (l .loop .inv .3))
+    (z .pre .0, holds-next (z .args .s) (l .loop .k) (z .args .window .now) (z .pre .1 .long) (l .loop .inv .3), z .pre .2)
 
 add-k : tie.Need-add-k Inv-loop μ-loop
 add-k c = search needs

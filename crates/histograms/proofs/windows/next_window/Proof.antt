@@ -7,13 +7,15 @@ use Rattle.histograms.proofs.windows.next_window.Statement.{statement}
 use Rattle.histograms.proofs.windows.next_window.Tie as tie
 
 column-requires : tie.Need-column-requires
-column-requires c κs = c .before .before .before .pre .0 .columns
+column-requires c κs = let p = c .before .before .before .pre in record { few = p .0 .few; counts-long = p .0 .counts-long; dark = p .2 }
 
 add-column : tie.Need-add-column
 add-column c = search needs
 
 column-requires-2 : tie.Need-column-requires-2
-column-requires-2 c κs = c .before .before .before .before .before .pre .0 .columns
+column-requires-2 c κs =
+    let p = c .before .before .before .before .before .pre in
+    record { few = p .0 .few; counts-long = p .0 .counts-long; dark = p .2 }
 
 slide-requires : tie.Need-slide-requires
 slide-requires c κs =

@@ -18,7 +18,7 @@ each-window-requires : tie.Need-each-window-requires
 each-window-requires c κs =
     let f = c .before .before .before .before in
     let z = f .before .before .before .before .before in
-    (z .pre .0, holds-next (z .args .s) (z .args .s .ahead) (z .args .window .now) (z .pre .1 .long) (f .first-window .ensures), z .pre .2)
+    (z .pre .0, holds-next (z .args .s) (z .args .s .ahead) (z .args .window .now) (z .pre .1 .long) (f .first-window .ensures), z .pre .2, z .pre .3)
 
 same-length : tie.Need-same-length
 same-length c = search needs
