@@ -1,41 +1,104 @@
--- Pixels from one to another: a row is done by runs of them, one after the other.
+-- Pixels from one to another: a row is done by runs of them, at which the columns that enter, and those that leave, lie all in the row or all outside it.
 -- Assumes nothing.
 use Prim.Native.Nat.{ℕ, _+_, _-_, _*_, _≤_, _<_}
+use native.Mathlib.Nat.{le-refl, mul-le-mul-right}
 use native.Mathlib.Omega.{arith}
 use mathlib.Core.Path.{_≡_, refl, sym, ap, _∙_, subst}
+use mathlib.Core.Bool.{Bool, true, false, cond, not}
+use mathlib.Core.Logic.{_⊎_, inl, inr}
 use mathlib.Core.List.{List, _++_}
+use lib.Dec.{T}
 use lib.IntN.{ℤ, subℕ}
-use lib.ListN.{length, set, drop, length-set}
-use lib.Seq.{drop-at}
-use borrow.Author.Tests.{lt-ltb}
+use lib.ListN.{length, getD, set, drop, length-set, length-drop}
+use lib.Seq.{drop-at, getD-drop}
+use borrow.Author.Tests.{lt-ltb, le-ltb}
 use Rattle.arith.specs.Tab.{tab}
-use Rattle.arith.proofs.Ints.{sub-high}
+use Rattle.arith.proofs.Ints.{sub-low, sub-high}
 use Rattle.arith.proofs.Parts.{line-end, part, part-tab}
 use Rattle.arith.proofs.Passes.{Pass, none-done, one-more, pass-length, pass-again}
 use Rattle.arith.proofs.Tabs.{length-tab, tab-cong}
 use Rattle.levels.specs.Levels.{ranked}
 use Rattle.histograms.specs.declared.windows.Span.{Span}
+use Rattle.histograms.specs.declared.windows.Lane.{Lane}
 use Rattle.histograms.specs.Windows.{columnCount}
-use Rattle.histograms.specs.Spans.{slidTo, SpanFits, Holds, Reached, Carried, Written}
+use Rattle.histograms.specs.Spans.{slidTo, Zeros, SpanFits, LaneOf, Holds, Reached, Carried, Written}
 use Rattle.histograms.proofs.Slides.{holds-list, holds-next}
 
--- ---- a column in the row
+-- ---- columns that stand one after the other
 
-module _ (s : Span) {counts : List ℕ} (f : SpanFits s counts) (k back : ℕ) (h : back ≤ k) (l : k < s .width + back) where
-  pub column-ends : (k - back) * 256 + s .levels ≤ length counts
-  column-ends = let e = line-end (k - back) (s .width) 256 (length counts) (omega arith) (f .counts-long) in let n = f .few in omega arith
+module _ (s : Span) {counts zeros : List ℕ} (f : SpanFits s counts) (d : Zeros 256 zeros) where
+  -- in the store
+  module _ (k back i n : ℕ) (h : back ≤ k) (m : i < n) (l : k + n ≤ s .width + back) where
+    store-ends : i * 256 + s .levels ≤ length (drop ((k - back) * 256) counts)
+    store-ends =
+        let e = line-end (k - back + i) (s .width) 256 (length counts) (omega arith) (f .counts-long) in
+        let g = f .few in
+        let t = length-drop ((k - back) * 256) counts in
+        omega arith
 
-  pub column-is : part ((k - back) * 256) (s .levels) counts ≡ tab (s .levels) (λ u. columnCount counts (s .width) u (subℕ k back))
+    store-at : (u : ℕ) → getD (drop ((k - back) * 256) counts) (i * 256 + u) 0 ≡ columnCount counts (s .width) u (subℕ (k + i) back)
+    unfolding columnCount
+    store-at u =
+        let e : (k - back) * 256 + (i * 256 + u) ≡ (k + i - back) * 256 + u = let j : k - back + i ≡ k + i - back = omega arith in omega arith in
+        getD-drop ((k - back) * 256) counts (i * 256 + u) 0 ∙ ap (λ j. getD counts j 0) e
+        ∙ rw (sub-high (k + i) back (omega arith), lt-ltb (k + i - back) (s .width) (omega arith)) refl
+
+  -- outside the row
+  none-at : (k back : ℕ) (u : ℕ) → (k < back) ⊎ (s .width + back ≤ k) → 0 ≡ columnCount counts (s .width) u (subℕ k back)
   unfolding columnCount
-  column-is =
-      part-tab ((k - back) * 256) (s .levels) counts column-ends
-      ∙ tab-cong (s .levels) (λ u i. rw (sub-high k back h, lt-ltb (k - back) (s .width) (omega arith)) refl)
+  none-at k back u (inl h) = rw (sub-low k back h) refl
+  none-at k back u (inr h) = rw (sub-high k back (omega arith), le-ltb (k - back) (s .width) (omega arith)) refl
+
+  -- a lane, by where it lies
+  module _ (k back : ℕ) (l : Lane) (h : LaneOf (s .width) k back (l .count) l) {line : List ℕ} (e : line ≡ cond (l .inside) (drop (l .at) counts) zeros) where
+    in-line : (b : Bool) → b ≡ l .inside → (i : ℕ) → i < l .count → (i * l .step + s .levels ≤ length line)
+        × ((u : ℕ) → getD line (i * l .step + u) 0 ≡ columnCount counts (s .width) u (subℕ (k + i) back))
+    in-line true t i m =
+        let g = h .inside (subst T t tt) in
+        let w : line ≡ drop ((k - back) * 256) counts = e ∙ ap (λ b. cond b (drop (l .at) counts) zeros) (sym t) ∙ ap (λ a. drop a counts) (g .0) in
+        rw (w, g .1) (store-ends k back i (l .count) (g .2) m (g .3), store-at k back i (l .count) (g .2) m (g .3))
+    in-line false t i m =
+        let g = h .outside (subst (λ b. T (not b)) t tt) in
+        let w : line ≡ zeros = e ∙ ap (λ b. cond b (drop (l .at) counts) zeros) (sym t) in
+        let n = d .long in
+        let p = f .few in
+        rw (w, g .0) (omega arith, λ u. d .none (i * 0 + u) ∙ none-at (k + i) back u (g .1 i m))
+
+    pub lane-begins : T (l .inside) → l .at ≤ length counts
+    lane-begins t =
+        let g = h .inside t in
+        let a = g .0 in
+        let b = g .2 in
+        let c = g .3 in
+        let m : (k - back) * 256 ≤ s .width * 256 = mul-le-mul-right 256 (omega arith) in
+        let w = f .counts-long in
+        omega arith
+
+    pub lane-ends : (i : ℕ) → i < l .count → i * l .step + s .levels ≤ length line
+    lane-ends i m = in-line (l .inside) refl i m .0
+
+    pub lane-is : (i at : ℕ) → i < l .count → k + i ≡ at
+        → part (i * l .step) (s .levels) line ≡ tab (s .levels) (λ u. columnCount counts (s .width) u (subℕ at back))
+    lane-is i at m q =
+        part-tab (i * l .step) (s .levels) line (lane-ends i m)
+        ∙ tab-cong (s .levels) (λ u p. in-line (l .inside) refl i m .1 u ∙ ap (λ j. columnCount counts (s .width) u (subℕ j back)) q)
+
+-- a lane is no longer than it is
+pub lane-own : {width k back most : ℕ} {l : Lane} → LaneOf width k back most l → LaneOf width k back (l .count) l
+lane-own h = record { some = λ m. m; few = le-refl _; inside = h .inside; outside = h .outside }
 
 -- ---- a run of pixels
 
 module _ (s : Span) {counts : List ℕ} where
   pub carried-none : (from : ℕ) {out : List ℤ} {window : List ℕ} → Holds s counts (from + s .ahead) window → Carried s counts from from out window out window
   carried-none from h = record { holds = h; out-long = refl; long = refl; carries = λ o w r. r }
+
+  pub carried-at : {from c at : ℕ} {out₀ : List ℤ} {window₀ : List ℕ} {out : List ℤ} {window : List ℕ} → c ≡ at
+      → Carried s counts from c out₀ window₀ out window → Carried s counts from at out₀ window₀ out window
+  carried-at {from} {out₀ = out₀} {window₀} {out} {window} e h = subst (λ k. Carried s counts from k out₀ window₀ out window) e h
+
+  pub reached-at : {o : List ℤ} {w : List ℕ} {c at : ℕ} {out : List ℤ} {window : List ℕ} → c ≡ at → Reached s counts o w c out window → Reached s counts o w at out window
+  reached-at {o} {w} {out = out} {window} e h = subst (λ k. Reached s counts o w k out window) e h
 
   -- one pixel more
   pub carried-next : {from c : ℕ} {out₀ : List ℤ} {window₀ : List ℕ} {out : List ℤ} {window next : List ℕ} {z : ℤ}

@@ -1,8 +1,11 @@
 -- What the functions that carry a window along a row compute, and what they ask. The contract of an arrival uses none of this.
 -- Assumes nothing.
-use Prim.Native.Nat.{ℕ, _+_, _*_, _≤_, _<_}
+use Prim.Native.Nat.{ℕ, _+_, _-_, _*_, _≤_, _<_}
 use mathlib.Core.Path.{_≡_}
+use mathlib.Core.Bool.{not}
+use mathlib.Core.Logic.{_⊎_}
 use mathlib.Core.List.{List, _++_}
+use lib.Dec.{T}
 use lib.IntN.{ℤ, subℕ}
 use lib.ListN.{length, getD, drop}
 use Rattle.arith.specs.Part.{posPart, negPart}
@@ -12,6 +15,8 @@ use Rattle.layout.specs.declared.Rect.{Rect}
 use Rattle.layout.specs.Measure.{colsOf}
 use Rattle.levels.specs.Levels.{countOf, countAt, ranked}
 use Rattle.histograms.specs.declared.windows.Span.{Span}
+use Rattle.histograms.specs.declared.windows.Lane.{Lane}
+use Rattle.histograms.specs.declared.windows.Run.{Run}
 use Rattle.histograms.specs.Windows.{columnCount}
 
 -- the span of a window
@@ -56,20 +61,21 @@ pub record Holds (s : Span) (counts : List ℕ) (k : ℕ) (window : List ℕ) : 
   pub long : s .levels ≤ length window
   pub each : (u : ℕ) → u < s .levels → countOf window u ≡ slidTo counts s k u
 
--- pixels from one to another at which the column that enters and the one that leaves both lie in the row
-pub record Inner (s : Span) (from to : ℕ) : Type 0 where
-  pub order : from ≤ to
-  pub in-row : to ≤ s .width
-  pub leaves-in : from < to → s .behind + s .columns ≤ from + s .ahead
-  pub enters-in : from < to → to + s .ahead ≤ s .width + s .behind
+-- where column k - back stands at the first of `count` pixels, k + 1 - back at the second, and so on: in the store of counts, one after the
+-- other, or nowhere, and then zeros are read
+pub record LaneOf (width k back most : ℕ) (l : Lane) : Type 0 where
+  pub some : 1 ≤ most → 1 ≤ l .count
+  pub few : l .count ≤ most
+  pub inside : T (l .inside) → (l .at ≡ (k - back) * 256) × (l .step ≡ 256) × (back ≤ k) × (k + l .count ≤ width + back)
+  pub outside : T (not (l .inside)) → (l .step ≡ 0) × ((i : ℕ) → i < l .count → (k + i < back) ⊎ (width + back ≤ k + i))
 
--- pixels from one to another, of an output of n places, with the window store that the first of them finds
-pub record RunFits (s : Span) (counts : List ℕ) (from to n : ℕ) (window : List ℕ) : Type 0 where
-  pub span : SpanFits s counts
-  pub holds : Holds s counts (from + s .ahead) window
-  pub order : from ≤ to
-  pub in-row : to ≤ s .width
-  pub lent : s .width ≤ n
+-- pixels from one on, of which the columns that enter and those that leave stand in lanes
+pub record RunOf (s : Span) (r : Run) : Type 0 where
+  pub in-row : r .from + r .count ≤ s .width
+  pub on : LaneOf (s .width) (r .from + s .ahead) (s .behind) (r .on .count) (r .on)
+  pub off : LaneOf (s .width) (r .from + s .ahead) (s .behind + s .columns) (r .off .count) (r .off)
+  pub on-long : r .count ≤ r .on .count
+  pub off-long : r .count ≤ r .off .count
 
 -- ---- what is left
 
@@ -79,7 +85,7 @@ pub record Reached (s : Span) (counts : List ℕ) (o : List ℤ) (w : List ℕ) 
   pub long : length out ≡ length o
   pub is : window ≡ tab (s .levels) (slidTo counts s (c + s .ahead)) ++ drop (s .levels) w
 
--- pixels from one to another: what was reached at the first is reached at the other
+-- pixels from one to another: what was reached at the first is reached at the other, whatever was there at the start of the row
 pub record Carried (s : Span) (counts : List ℕ) (from to : ℕ) (out₀ : List ℤ) (window₀ : List ℕ) (out : List ℤ) (window : List ℕ) : Type 0 where
   pub holds : Holds s counts (to + s .ahead) window
   pub out-long : length out ≡ length out₀

@@ -1,68 +1,104 @@
--- `histograms::each_window` is three runs of pixels: near the left edge of the row, inside it, and near the right edge.
+-- `histograms::each_window` does run after run, each of one pixel at least.
 -- Assumes nothing.
-use native.Mathlib.Nat.{le-refl}
+use Prim.Native.Nat.{_+_, _-_, _≤_, _<_}
 use native.Mathlib.Omega.{arith}
-use mathlib.Core.Path.{_≡_, _∙_}
+use mathlib.Core.Path.{_≡_, refl, sym, ap, _∙_, subst}
 use lib.ListN.{length}
-use Rattle.histograms.proofs.Runs.{first-holds, none-reached, all-reached}
+use Rattle.arith.proofs.Passes.{pass-length}
+use Rattle.histograms.specs.Spans.{Holds, Reached}
+use Rattle.histograms.proofs.Slides.{holds-next}
+use Rattle.histograms.proofs.Runs.{reached-at, none-reached, all-reached}
 use borrow.Author.Needs.{needs}
 use Rattle.histograms.proofs.windows.each_window.Statement.{statement}
 use Rattle.histograms.proofs.windows.each_window.Tie as tie
 
-inner-of-requires : tie.Need-inner-of-requires
-inner-of-requires c κs = search needs
+abbrev Inv-loop : tie.InvT-loop
+Inv-loop out₀ window₀ counts zeros s n c₀ out window c = (n ≡ s .width) × (c ≤ n) × Reached s counts out₀ window₀ c out window
 
-edge-windows-requires : tie.Need-edge-windows-requires
-edge-windows-requires c κs =
+abbrev μ-loop : tie.MeasureT-loop
+μ-loop out₀ window₀ counts zeros s n c₀ out window c = n - c
+
+loop-holds : tie.Need-loop-holds Inv-loop μ-loop
+loop-holds c = let z = c .before .before .before in (refl, omega arith, none-reached (z .args .s) (z .args .out .now) (z .pre .2) (z .pre .1))
+
+run-of-requires : tie.Need-run-of-requires Inv-loop μ-loop
+run-of-requires c κs =
+    let f = c .before .before .before .before .before .pre .0 in
+    (c .loop-test .taken, f .width-most, f .ahead-most, f .behind-most, f .columns-most)
+
+run-windows-requires : tie.Need-run-windows-requires Inv-loop μ-loop
+run-windows-requires c κs =
     let o = c .before .before in
-    let z = o .before .before .before .before in
-    let i = o .inner-of .ensures in
-    let a = i .order in
-    let b = i .in-row in
-    (record { span = z .pre .0; holds = first-holds (z .args .s) (z .pre .1); order = omega arith; in-row = omega arith; lent = z .pre .2 }, z .pre .3)
+    let l = o .before .before .loop in
+    let z = o .before .before .before .before .before .before in
+    let s = z .args .s in
+    let e = o .run-of .ensures in
+    let h = holds-next s (l .c + s .ahead) (z .args .window .now) (z .pre .1 .long) (l .inv .2 .is) in
+    (z .pre .0, subst (λ k. Holds s (z .args .counts .now) (k + s .ahead) (l .window)) (sym (e .1)) h, rw (l .inv .2 .long) (z .pre .2), z .pre .3, e .0)
 
-inner-windows-requires : tie.Need-inner-windows-requires
-inner-windows-requires c κs =
-    let e = c .before .before .before .before .before in
-    let o = e .before .before .before in
-    let z = o .before .before .before .before in
-    let i = o .inner-of .ensures in
-    let w = e .edge-windows .ensures in
-    (record { span = z .pre .0; holds = w .holds; order = i .order; in-row = i .in-row; lent = rw (w .out-long) (z .pre .2) }, i)
+add-c : tie.Need-add-c Inv-loop μ-loop
+add-c c =
+    let o = c .before .before .before .before .before .before .before in
+    let e = o .run-of .ensures in
+    let a = e .1 in
+    let w = e .0 .in-row in
+    let n = o .before .before .before .before .before .before .pre .0 .width-most in
+    let h : o .before .before .loop .c + o .run-of .result .count ≤ 1024 = omega arith in
+    search (needs, h)
 
-edge-windows-requires-2 : tie.Need-edge-windows-requires-2
-edge-windows-requires-2 c κs =
-    let n = c .before .before .before .before .before in
-    let e = n .before .before .before .before .before .before in
-    let o = e .before .before .before in
-    let z = o .before .before .before .before in
-    let w = n .inner-windows .ensures in
-    let l = w .out-long ∙ e .edge-windows .ensures .out-long in
-    (record { span = z .pre .0; holds = w .holds; order = o .inner-of .ensures .in-row; in-row = le-refl (z .args .s .width); lent = rw l (z .pre .2) }, z .pre .3)
+loop-less : tie.Need-loop-less Inv-loop μ-loop
+loop-less c =
+    let o = c .before .before .before .before .before .before .before in
+    let e = o .run-of .ensures in
+    let a = e .1 in
+    let m = e .2 in
+    let w = e .0 .in-row in
+    let t = o .before .loop-test .taken in
+    omega arith
 
-same-length : tie.Need-same-length
+loop-again : tie.Need-loop-again Inv-loop μ-loop
+loop-again c =
+    let w = c .before .before .before .before in
+    let o = w .before .before .before in
+    let z = o .before .before .before .before .before .before in
+    let l = o .before .before .loop in
+    let r = o .run-of .result in
+    let e = o .run-of .ensures in
+    let a = e .1 in
+    let b = e .0 .in-row in
+    let p : r .from + r .count ≡ l .c + r .count = omega arith in
+    let k = w .run-windows .ensures .carries (z .args .out .now) (z .args .window .now) (reached-at (z .args .s) (sym a) (l .inv .2)) in
+    (refl, omega arith, reached-at (z .args .s) p k)
+
+same-length : tie.Need-same-length Inv-loop μ-loop
 same-length c = search needs
 
-same-length-2 : tie.Need-same-length-2
-same-length-2 c = search needs
+same-length-2 : tie.Need-same-length-2 Inv-loop μ-loop
+same-length-2 c =
+    let z = c .before .before .before .before .before in
+    ap length (c .before .loop .inv .2 .is) ∙ pass-length (z .args .s .levels) _ (z .args .window .now) (z .pre .1 .long)
 
-returns : tie.Need-returns
+returns : tie.Need-returns Inv-loop μ-loop
 returns c =
-    let l = c .before .before .before in
-    let n = l .before .before .before .before .before .before in
-    let e = n .before .before .before .before .before .before in
-    let z = e .before .before .before .before .before .before .before in
-    let first = e .edge-windows .ensures .carries _ _ (none-reached (z .args .s) (z .args .out .now) (z .pre .2) (z .pre .1)) in
-    all-reached (z .args .s) (z .pre .1 .long) (l .edge-windows2 .ensures .carries _ _ (n .inner-windows .ensures .carries _ _ first))
+    let l = c .before .loop in
+    let z = c .before .before .before .before .before in
+    let n = l .inv .1 in
+    let t = c .loop-test .left in
+    let e : l .c ≡ z .args .s .width = omega arith in
+    all-reached (z .args .s) (z .pre .1 .long) (reached-at (z .args .s) e (l .inv .2))
 
 pub each-window-spec : {M : Type 1} → statement M
 each-window-spec =
     tie.close
     (tie.spec
-    inner-of-requires
-    edge-windows-requires
-    inner-windows-requires
-    edge-windows-requires-2
+    Inv-loop
+    μ-loop
+    loop-holds
+    run-of-requires
+    run-windows-requires
+    add-c
+    loop-less
+    loop-again
     same-length
     same-length-2
     returns)
