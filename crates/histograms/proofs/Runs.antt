@@ -1,4 +1,4 @@
--- Pixels from one to another: a row is done by runs of them, at which the columns that enter, and those that leave, lie all in the row or all outside it.
+-- A row is done by runs of pixels at which the columns that enter, and those that leave, lie all in the row or all outside it.
 -- Assumes nothing.
 use Prim.Native.Nat.{ℕ, _+_, _-_, _*_, _≤_, _<_}
 use native.Mathlib.Nat.{le-refl, mul-le-mul-right}
@@ -50,7 +50,8 @@ module _ (s : Span) {counts zeros : List ℕ} (f : SpanFits s counts) (d : Zeros
   none-at k back u (inr h) = rw (sub-high k back (omega arith), le-ltb (k - back) (s .width) (omega arith)) refl
 
   -- a lane, by where it lies
-  module _ (k back : ℕ) (l : Lane) (h : LaneOf (s .width) k back (l .count) l) {line : List ℕ} (e : line ≡ cond (l .inside) (drop (l .at) counts) zeros) where
+  module _ (k back : ℕ) (l : Lane) (h : LaneOf (s .width) k back (l .count) l) {line : List ℕ}
+      (e : line ≡ cond (l .inside) (drop (l .at) counts) zeros) where
     in-line : (b : Bool) → b ≡ l .inside → (i : ℕ) → i < l .count → (i * l .step + s .levels ≤ length line)
         × ((u : ℕ) → getD line (i * l .step + u) 0 ≡ columnCount counts (s .width) u (subℕ (k + i) back))
     in-line true t i m =
@@ -90,14 +91,16 @@ lane-own h = record { some = λ m. m; few = le-refl _; inside = h .inside; outsi
 -- ---- a run of pixels
 
 module _ (s : Span) {counts : List ℕ} where
-  pub carried-none : (from : ℕ) {out : List ℤ} {window : List ℕ} → Holds s counts (from + s .ahead) window → Carried s counts from from out window out window
+  pub carried-none : (from : ℕ) {out : List ℤ} {window : List ℕ}
+      → Holds s counts (from + s .ahead) window → Carried s counts from from out window out window
   carried-none from h = record { holds = h; out-long = refl; long = refl; carries = λ o w r. r }
 
   pub carried-at : {from c at : ℕ} {out₀ : List ℤ} {window₀ : List ℕ} {out : List ℤ} {window : List ℕ} → c ≡ at
       → Carried s counts from c out₀ window₀ out window → Carried s counts from at out₀ window₀ out window
   carried-at {from} {out₀ = out₀} {window₀} {out} {window} e h = subst (λ k. Carried s counts from k out₀ window₀ out window) e h
 
-  pub reached-at : {o : List ℤ} {w : List ℕ} {c at : ℕ} {out : List ℤ} {window : List ℕ} → c ≡ at → Reached s counts o w c out window → Reached s counts o w at out window
+  pub reached-at : {o : List ℤ} {w : List ℕ} {c at : ℕ} {out : List ℤ} {window : List ℕ} → c ≡ at
+      → Reached s counts o w c out window → Reached s counts o w at out window
   reached-at {o} {w} {out = out} {window} e h = subst (λ k. Reached s counts o w k out window) e h
 
   -- one pixel more

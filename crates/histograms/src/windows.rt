@@ -176,8 +176,10 @@ fn run_windows<'a>(
     s: Span,
     r: Run,
 )
-    requires { ⌜ SpanFits s (now counts) × Holds s (now counts) (r .from + s .ahead) (now window) × (s .width ≤ length (now out)) × Zeros 256 (now zeros) × RunOf s r ⌝ }
-    ensures { λ _. ⌜ Carried s (now (counts .entry)) (r .from) (r .from + r .count) (now (out .entry)) (now (window .entry)) (now (out .exit)) (now (window .exit)) ⌝ }
+    requires { ⌜ SpanFits s (now counts) × Holds s (now counts) (r .from + s .ahead) (now window) × (s .width ≤ length (now out))
+        × Zeros 256 (now zeros) × RunOf s r ⌝ }
+    ensures { λ _. ⌜ Carried s (now (counts .entry)) (r .from) (r .from + r .count) (now (out .entry)) (now (window .entry))
+        (now (out .exit)) (now (window .exit)) ⌝ }
 {
     let levels = s.levels;
     let n = r.count;

@@ -28,7 +28,8 @@ write-row-requires c κs =
     let z = c .before .before .before .before .before .before .before in
     let p : Zeros 256 (z .args .zeros .now) = zero-columns (z .args .a) (z .pre) in
     subst
-    (λ s. SpanFits s (z .args .counts .now) × Holds s (z .args .counts .now) 0 (z .args .windows .now) × (s .width ≤ length (z .args .out .now)) × Zeros 256 (z .args .zeros .now))
+    (λ s. SpanFits s (z .args .counts .now) × Holds s (z .args .counts .now) 0 (z .args .windows .now) × (s .width ≤ length (z .args .out .now))
+    × Zeros 256 (z .args .zeros .now))
     (sym (span-is c)) (span-fits (z .args .a) (z .pre), holds-none (z .args .a) (z .pre), z .pre .lent, p)
 
 zero-samples-requires : tie.Need-zero-samples-requires

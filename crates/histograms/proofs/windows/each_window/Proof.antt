@@ -34,7 +34,8 @@ run-windows-requires c κs =
     let s = z .args .s in
     let e = o .run-of .ensures in
     let h = holds-next s (l .c + s .ahead) (z .args .window .now) (z .pre .1 .long) (l .inv .2 .is) in
-    (z .pre .0, subst (λ k. Holds s (z .args .counts .now) (k + s .ahead) (l .window)) (sym (e .1)) h, rw (l .inv .2 .long) (z .pre .2), z .pre .3, e .0)
+    let w = subst (λ k. Holds s (z .args .counts .now) (k + s .ahead) (l .window)) (sym (e .1)) h in
+    (z .pre .0, w, rw (l .inv .2 .long) (z .pre .2), z .pre .3, e .0)
 
 add-c : tie.Need-add-c Inv-loop μ-loop
 add-c c =

@@ -36,7 +36,8 @@ on-ends i =
     let p = z .pre in
     let m = p .4 .on-long in
     let t = i .loop-test .taken in
-    lane-ends (z .args .s) (p .0) (p .3) _ _ (z .args .r .on) (p .4 .on) (i .before .before .before .lane-counts .ensures) (i .before .loop .i) (omega arith)
+    lane-ends (z .args .s) (p .0) (p .3) _ _ (z .args .r .on) (p .4 .on) (i .before .before .before .lane-counts .ensures)
+    (i .before .loop .i) (omega arith)
 
 off-ends : (i : tie.In-loop Inv-loop μ-loop)
     → i .before .loop .i * begun i .args .r .off .step + begun i .args .s .levels ≤ length (i .before .before .lane-counts2 .result .now)
@@ -45,7 +46,8 @@ off-ends i =
     let p = z .pre in
     let m = p .4 .off-long in
     let t = i .loop-test .taken in
-    lane-ends (z .args .s) (p .0) (p .3) _ _ (z .args .r .off) (p .4 .off) (i .before .before .lane-counts2 .ensures) (i .before .loop .i) (omega arith)
+    lane-ends (z .args .s) (p .0) (p .3) _ _ (z .args .r .off) (p .4 .off) (i .before .before .lane-counts2 .ensures)
+    (i .before .loop .i) (omega arith)
 
 -- the pixel, as far as the lead's column
 abbrev lead : tie.In-loop Inv-loop μ-loop → ℕ
@@ -81,7 +83,8 @@ enters i =
     let p = z .pre in
     let m = p .4 .on-long in
     let t = i .loop-test .taken in
-    lane-is (z .args .s) (p .0) (p .3) _ _ (z .args .r .on) (p .4 .on) (i .before .before .before .lane-counts .ensures) (i .before .loop .i) (lead i) (omega arith) (omega arith)
+    lane-is (z .args .s) (p .0) (p .3) _ _ (z .args .r .on) (p .4 .on) (i .before .before .before .lane-counts .ensures)
+    (i .before .loop .i) (lead i) (omega arith) (omega arith)
 
 leaves : (i : tie.In-loop Inv-loop μ-loop) → let s = begun i .args .s in
     part (i .before .loop .i * begun i .args .r .off .step) (s .levels) (i .before .before .lane-counts2 .result .now)
@@ -91,7 +94,8 @@ leaves i =
     let p = z .pre in
     let m = p .4 .off-long in
     let t = i .loop-test .taken in
-    lane-is (z .args .s) (p .0) (p .3) _ _ (z .args .r .off) (p .4 .off) (i .before .before .lane-counts2 .ensures) (i .before .loop .i) (lead i) (omega arith) (omega arith)
+    lane-is (z .args .s) (p .0) (p .3) _ _ (z .args .r .off) (p .4 .off) (i .before .before .lane-counts2 .ensures)
+    (i .before .loop .i) (lead i) (omega arith) (omega arith)
 
 -- the window after the column has entered
 abbrev turn : tie.After-slide Inv-loop μ-loop → tie.In-loop Inv-loop μ-loop
@@ -104,14 +108,19 @@ slid n =
     let z = begun i in
     n .slide .ensures ∙ slide-leaves (z .args .s) (z .pre .0) (lead i) (i .before .loop .inv .3 .holds) (leaves i) (enters i)
 
-slid-holds : (n : tie.After-slide Inv-loop μ-loop) → Holds (begun (turn n) .args .s) (begun (turn n) .args .counts .now) (lead (turn n) + 1) (n .slide .last .0)
+slid-holds : (n : tie.After-slide Inv-loop μ-loop)
+    → Holds (begun (turn n) .args .s) (begun (turn n) .args .counts .now) (lead (turn n) + 1) (n .slide .last .0)
 slid-holds n = let l = turn n .before .loop in holds-next (begun (turn n) .args .s) _ (l .window) (l .inv .3 .holds .long) (slid n)
 
 lane-counts-requires : tie.Need-lane-counts-requires Inv-loop μ-loop
-lane-counts-requires c κs = let z = c .before .before .before in lane-begins (z .args .s) (z .pre .0) (z .pre .3) _ _ (z .args .r .on) (z .pre .4 .on) refl
+lane-counts-requires c κs =
+    let z = c .before .before .before in
+    lane-begins (z .args .s) (z .pre .0) (z .pre .3) _ _ (z .args .r .on) (z .pre .4 .on) refl
 
 lane-counts-requires-2 : tie.Need-lane-counts-requires-2 Inv-loop μ-loop
-lane-counts-requires-2 c κs = let z = c .before .before .before .before in lane-begins (z .args .s) (z .pre .0) (z .pre .3) _ _ (z .args .r .off) (z .pre .4 .off) refl
+lane-counts-requires-2 c κs =
+    let z = c .before .before .before .before in
+    lane-begins (z .args .s) (z .pre .0) (z .pre .3) _ _ (z .args .r .off) (z .pre .4 .off) refl
 
 loop-holds : tie.Need-loop-holds Inv-loop μ-loop
 loop-holds c =
@@ -204,7 +213,8 @@ loop-again c =
     let w = z .pre .4 .in-row in
     let h : r .from + l .i < s .width = omega arith in
     let m : l .i + 1 ≤ r .count = omega arith in
-    let x = toZ-ofZ {w = w32} (record { sfits = c .before .find .ok }) ∙ c .before .find .ensures ∙ found-is s (z .pre .0) (lead i + 1) (slid-holds n) in
+    let x = toZ-ofZ {w = w32} (record { sfits = c .before .find .ok }) ∙ c .before .find .ensures
+    ∙ found-is s (z .pre .0) (lead i + 1) (slid-holds n) in
     (refl, refl, m, carried-at s e (carried-next s (l .inv .3) h (z .pre .2) (slid n) x))
 
 same-length : tie.Need-same-length Inv-loop μ-loop
