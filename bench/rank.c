@@ -11,7 +11,7 @@
 #include <string.h>
 #include <time.h>
 
-enum { WIDTH = 1024, GIVEN = 64, COMPARED = 100, TIMED = 200, TIMES = 15, BLOCK = 16, LOOPS = 4 };
+enum { WIDTH = 1024, GIVEN = 64, COMPARED = 100, TIMED = 200, TIMES = 40, BLOCK = 16, LOOPS = 4 };
 
 static _Alignas(64) uint16_t samples[STRIP_KEPT_ROWS * WIDTH];
 static _Alignas(64) uint16_t counts[STRIP_LEVELS * WIDTH];

@@ -21,7 +21,7 @@ if command -v valgrind >/dev/null 2>&1; then
     done
     echo
     echo "instructions per pixel of the ranked window, 1024 columns, squares of 3, 15 and 31"
-    for loop in library stores huang; do
+    for loop in library stores fixed huang; do
         for bits in 8 6; do
             for side in 3 15 31; do
                 for rows in 40 80; do
