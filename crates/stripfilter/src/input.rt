@@ -1,6 +1,13 @@
-// What is read: the words of the command line, the table file, and the scan.
+// What is read: the words of the command line, the table file, and the scan's header.
+ghost use mathlib.Core.Path.{_≡_};
+ghost use mathlib.Core.Bool.{false};
+ghost use lib.Dec.{T};
 ghost use Rattle.io.specs.Counts.{Counts};
+ghost use Rattle.filtering.specs.Judging.{Accepts};
+use crate::output;
 use filtering::Command;
+use filtering::Job;
+use filtering::Judged;
 use libc::STDIN_FILENO;
 use pgm::Opening;
 use streams::Got;
@@ -89,4 +96,42 @@ pub fn opening() -> Opened {
         }
     }
     unfinished(n, false)
+}
+
+// Whether the scan is taken, and what its header says.
+pub struct Announced {
+    pub taken: bool,
+    pub job: Job,
+}
+
+fn not_taken() -> Announced
+    ensures { λ a. ⌜ a .taken ≡ false ⌝ }
+{
+    let job = Job {
+        width: 0,
+        height: 0,
+        maxval: 0,
+        need: 0,
+    };
+    Announced { taken: false, job }
+}
+
+// The scan that the header announces, for samples of b bits. Where it is not taken, a line says why.
+pub fn header(b: u8) -> Announced
+    ensures { λ a. ⌜ (T (a .taken) → Accepts (a .job)) ⌝ }
+{
+    let opened = opening();
+    if opened.failed {
+        os::fail(b"scan");
+        return not_taken();
+    }
+    let h = opened.opening;
+    let judged = filtering::judge(b, h, opened.n);
+    match judged {
+        Judged::Accepted(job) => Announced { taken: true, job },
+        Judged::Faulty(fault) => {
+            output::report(b"scan", fault);
+            not_taken()
+        }
+    }
 }

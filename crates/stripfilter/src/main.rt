@@ -11,7 +11,6 @@ ghost use Rattle.filtering.specs.Judging.{Accepts};
 use filtering::Command;
 use filtering::Fault;
 use filtering::Job;
-use filtering::Judged;
 use layout::Table;
 use libc::STDERR_FILENO;
 use libc::STDOUT_FILENO;
@@ -59,16 +58,9 @@ fn start(t: Table, job: Job, values: bool)
 
 // Filters standard input by a table.
 fn filter(t: Table, values: bool) {
-    let opened = input::opening();
-    if opened.failed {
-        os::fail(b"scan");
-        return;
-    }
-    let h = opened.opening;
-    let judged = filtering::judge(t.b, h, opened.n);
-    match judged {
-        Judged::Accepted(job) => start(t, job, values),
-        Judged::Faulty(fault) => output::report(b"scan", fault),
+    let a = input::header(t.b);
+    if a.taken {
+        start(t, a.job, values);
     }
 }
 

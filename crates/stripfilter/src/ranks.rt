@@ -9,7 +9,6 @@ use crate::output::Plan;
 use crate::rows::stopped;
 use filtering::Fault;
 use filtering::Job;
-use filtering::Judged;
 use filtering::Ranking;
 use filtering::centred;
 use layout::Answer;
@@ -218,15 +217,8 @@ fn start(r: Ranking, job: Job, values: bool)
 
 // Filters standard input by a ranked window; its samples have 8 bits at most.
 pub fn filter(r: Ranking, values: bool) {
-    let opened = input::opening();
-    if opened.failed {
-        os::fail(b"scan");
-        return;
-    }
-    let h = opened.opening;
-    let judged = filtering::judge(8, h, opened.n);
-    match judged {
-        Judged::Accepted(job) => start(r, job, values),
-        Judged::Faulty(fault) => output::report(b"scan", fault),
+    let a = input::header(8);
+    if a.taken {
+        start(r, a.job, values);
     }
 }
