@@ -16,3 +16,4 @@ pub mod Parts
 pub mod Bias
 pub mod Pastes
 pub mod Grids
+pub mod Residues

@@ -31,7 +31,7 @@ lent-bounds l count samples sums out e =
     (b .0, b .1, leb→le l out (h .1))
 
 -- what the steps of an arrival that fits ask
-pub steps-fit : {v : Arrival} {out delay : ℕ} {zeros : List ℕ} → Fits v out → delay ≡ delayOf (v .table) → Zeros zeros → StepFits v delay zeros
+pub steps-fit : {v : Arrival} {out delay : ℕ} {zeros : List ℕ} → Fits v out → delay ≡ delayOf (v .table) → Zeros (v .width) zeros → StepFits v delay zeros
 steps-fit {v} f d z =
     record {
       table = f .table;

@@ -28,9 +28,10 @@ use Rattle.limits.proofs.Granted.{granted}
 use Rattle.rule.specs.Sums.{covered}
 use Rattle.arrival.specs.Arrivals.{Arrival, arriving, edgeRow, cutAt, leaving, entering, stored, newSum, sumMost, sumGood}
 use Rattle.arrival.specs.Arrivals.{lineAt, windowAt, scaledAt, sumsAfter}
+use Rattle.arrival.proofs.Alike.{same-share}
 use Rattle.passes.proofs.Steps.{step-exact, step-back}
 use Rattle.passes.specs.Passes.{stepped, plus}
-use Rattle.arrival.specs.Rectangles.{sumLimit, updatedSum, rolledBackSum, withPart}
+use Rattle.arrival.specs.Rectangles.{sumLimit, updatedSum, rolledBackSum, lineOf, scale, withShare, withPart}
 
 -- the most that a column sum of a table within the limits can be
 pub most-le : (t : Table) (k : ℕ) → acceptable t ≡ true → k < t .count → sumMost t (rect t k) ≤ sumLimit
@@ -89,6 +90,10 @@ module _ (v : Arrival) (k : ℕ) (f : ℕ → ℕ → ℕ) {now : List ℕ} (e :
   same-line (pos j) = ap (λ n. cond (ltb j (v .width)) n 0) (same-new j)
   same-line (negsuc j) = refl
 
+  same-line-of : (i : ℕ) → lineOf after k i ≡ lineOf v k i
+  unfolding lineOf
+  same-line-of i = ap (λ n. cond (ltb i 32) 0 (n / 2 ^ v .table .q2)) (same-line (pos (i - 32)))
+
   same-scaled : (c : ℕ) → scaledAt after k c ≡ scaledAt v k c
   unfolding scaledAt windowAt
   same-scaled c =
@@ -97,6 +102,11 @@ module _ (v : Arrival) (k : ℕ) (f : ℕ → ℕ → ℕ) {now : List ℕ} (e :
 
   pub same-part : (acc : List ℕ) → tab (v .width) (withPart after k acc) ≡ tab (v .width) (withPart v k acc)
   same-part acc = tab-cong (v .width) (λ c h. ap (plus (getD acc c 0) (posPart (d .weight)) (negPart (d .weight))) (same-scaled c))
+
+  pub same-shared : (acc : List ℕ)
+      → tab (v .width + 16) (withShare d (v .table .q3) (scale (v .table)) (lineOf after k) acc)
+      ≡ tab (v .width + 16) (withShare d (v .table .q3) (scale (v .table)) (lineOf v k) acc)
+  same-shared acc = tab-cong (v .width + 16) (λ i h. rw (same-share d same-line-of (v .table .q3) i) refl)
 
 -- where question 19 holds, an updated sum is the one of the rule, and the updated sums are those that an accepted arrival leaves
 updated-exact : (v : Arrival) (k c : ℕ) → sumMost (v .table) (rect (v .table) k) ≤ sumLimit → T (sumGood v k c) → updatedSum v k c ≡ newSum v k c

@@ -14,7 +14,7 @@ use Rattle.arith.proofs.Alls.{all-at}
 use Rattle.arith.proofs.Sums.{sum-bound}
 use Rattle.arith.proofs.Ints.{diff-parts, diff-scale, diff-size, diff-sum}
 use Rattle.arith.proofs.Words.{mag-fits}
-use Rattle.arrival.proofs.Parts.{parts-le}
+use Rattle.arrival.proofs.Biased.{parts-le}
 use Rattle.layout.specs.Contents.{rect}
 use Rattle.layout.specs.Measure.{colsOf}
 use Rattle.limits.specs.Limits.{acceptable}

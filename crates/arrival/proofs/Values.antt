@@ -1,7 +1,7 @@
--- The values of an arrival that passes question 19: how large they are, and their pixels.
+-- How large the sums of an arrival are that passes question 19.
 -- Assumes nothing.
 use Prim.Native.Nat.{ℕ, _+_, _-_, _*_, _/_, _^_, _≤_, _<_, zero-le}
-use native.Mathlib.Nat.{le-of-eq, mul-le-mul-left}
+use native.Mathlib.Nat.{le-trans, mul-le-mul-left, mul-le-mul-right, div-mul-le-self}
 use native.Mathlib.Omega.{arith}
 use mathlib.Core.Path.{_≡_, refl, sym, ap, subst}
 use mathlib.Core.Bool.{Bool, true, false, cond}
@@ -28,8 +28,14 @@ use Rattle.rule.proofs.Fitting.{value-fits}
 use Rattle.arrival.specs.Arrivals.{Arrival, newSum, sumMost, sumGood, lineAt, windowAt, scaledAt, pixelAt}
 use Rattle.passes.specs.Passes.{bias, rounded}
 use Rattle.arrival.specs.Rectangles.{Accumulated}
-use Rattle.arrival.proofs.Lines.{cut-le}
 use Rattle.arrival.proofs.Carries.{good-at}
+
+-- n quotients by q, their sum truncated by r, scaled back
+pub cut-le : (w n m a p q r : ℕ) → w ≤ n * (m / q) → m * p ≤ a → w / r * (p * q * r) ≤ n * a
+cut-le w n m a p q r h l =
+    let x = mul-le-mul-right (p * q) (le-trans (div-mul-le-self w r) h) in
+    let y = mul-le-mul-left n (le-trans (mul-le-mul-right p (div-mul-le-self m q)) l) in
+    omega arith
 
 -- M·(2^(b - q1) - 1), scaled back, is at most M·(2^b - 1)
 most-scaled : (t : Table) (d : Rect) → t .q1 ≤ t .b → sumMost t d * 2 ^ t .q1 ≤ rowsOf d * (2 ^ t .b - 1)
@@ -63,29 +69,3 @@ scaled-most v k c h g =
     let x =
     cut-le (windowAt v k c) (colsOf d) (sumMost t d) (rowsOf d * (2 ^ t .b - 1)) (2 ^ t .q1) (2 ^ t .q2) (2 ^ t .q3) s (most-scaled t d h) in
     rw (pow-add 2 (t .q1 + t .q2) (t .q3), pow-add 2 (t .q1) (t .q2)) (omega arith)
-
--- the accumulator at the start, and at the end
-pub accumulated-none : (v : Arrival) → v .width ≤ 1024 → Accumulated v 0 (replicate 1024 bias)
-unfolding sumℤ
-accumulated-none v l =
-    let e : (c : ℕ) → c < v .width → _≡_ {A = ℕ} (getD (replicate 1024 bias) c 0) bias = λ c h. getD-replicate 1024 c bias 0 (omega arith) in
-    record {
-      long = le-of-eq (sym (length-replicate {A = ℕ} 1024 bias));
-      value = λ c h. rw (e c h) (record { is = refl });
-      low = λ c h. rw (e c h) (omega arith);
-      high = λ c h. rw (e c h) (omega arith);
-    }
-
-pub rounds : (v : Arrival) (acc : List ℕ) → Accumulated v (v .table .count) acc → (c : ℕ) → c < v .width
-    → rounded (getD acc c 0) (v .table .t) ≡ pixelAt v c
-unfolding pixelAt
-rounds v acc w c h = ap (λ z. floorDiv z (v .table .t)) (diff-eq (diff-sub (getD acc c 0) bias) (w .value c h) refl)
-
-pub rounds-word : (v : Arrival) (acc : List ℕ) → acceptable (v .table) ≡ true → ((k : ℕ) → k < v .table .count → T (all (v .width) (sumGood v k)))
-    → Accumulated v (v .table .count) acc → (c : ℕ) → c < v .width → T (fitsSigned 32 (rounded (getD acc c 0) (v .table .t)))
-unfolding pixelAt
-rounds-word v acc a good w c h =
-    let g = granted (v .table) a in
-    let q : v .table .q1 ≤ v .table .b = let l = g .q1-less in omega arith in
-    rw (rounds v acc w c h)
-    (fits-widen (v .table .w) 32 _ (g .word-most) (value-fits (v .table) a (λ k. scaledAt v k c) (λ k l. scaled-most v k c q (good k l))))

@@ -1,10 +1,11 @@
 -- What the steps of an arrival compute, rectangle by rectangle, and what they ask. The contract of an arrival uses none of this.
 -- Assumes nothing.
-use Prim.Native.Nat.{ℕ, _+_, _*_, _/_, _^_, _≤_, _<_}
+use Prim.Native.Nat.{ℕ, suc, _+_, _-_, _*_, _/_, _%_, _^_, _≤_, _<_}
 use mathlib.Core.Path.{_≡_}
-use mathlib.Core.Bool.{Bool, true}
+use mathlib.Core.Bool.{Bool, true, false, cond}
 use mathlib.Core.List.{List, _++_}
-use lib.IntN.{ℤ, pos, negsuc, _*ℤ_}
+use lib.Dec.{T, eqb, ltb}
+use lib.IntN.{ℤ, pos, _+ℤ_, _*ℤ_}
 use lib.ListN.{length, getD, drop}
 use borrow.Rule.Slice.PartMut.{putMid}
 use Rattle.arith.specs.All.{all}
@@ -17,11 +18,11 @@ use Rattle.layout.specs.declared.Rect.{Rect}
 use Rattle.layout.specs.declared.Table.{Table}
 use Rattle.layout.specs.Contents.{rect}
 use Rattle.layout.specs.Measure.{colsOf, delayOf}
-use Rattle.limits.specs.Limits.{acceptable}
-use Rattle.rule.specs.Sums.{covered}
+use Rattle.arith.specs.Twos.{fitsSigned}
+use Rattle.limits.specs.Limits.{acceptable, fitting, rectGood}
 use Rattle.ring.specs.Ring.{RingFits}
-use Rattle.passes.specs.Passes.{stepped, plus, bias, valueMost, partMost}
-use Rattle.arrival.specs.Arrivals.{Arrival, leaving, entering, stored, sumMost, sumGood, scaledAt, sumsAfter}
+use Rattle.passes.specs.Passes.{boundMost, stepped, running, plus, roundedWord, rounded, bias, valueMost, partMost, scaledEnd, RoundFits}
+use Rattle.arrival.specs.Arrivals.{Arrival, leaving, entering, stored, sumGood, lineAt, scaledAt, sumsAfter, outputAfter, Fits}
 
 -- 31 · (2^12 - 1), which no column sum of a table within the limits passes
 abbrev pub sumLimit : ℕ
@@ -34,42 +35,93 @@ updatedSum v k c = stepped (stored v k c) (leaving v k c) (entering v k c)
 unfoldable pub rolledBackSum : Arrival → (k c : ℕ) → ℕ
 rolledBackSum v k c = stepped (stored v k c) (entering v k c) (leaving v k c)
 
--- column j of a line that begins with 16 zeros
-unfoldable pub lineFrom : List ℕ → (j : ℤ) → ℕ
-lineFrom line (pos j) = getD line (16 + j) 0
-lineFrom line (negsuc j) = 0
+-- ---- lines of truncated column sums: 32 zeros, a place for each column, and zeros
 
--- the truncated rectangle sum at column c, scaled back, of a line of truncated column sums with 16 zeros before it
-unfoldable pub lineSum : Table → Rect → List ℕ → (c : ℕ) → ℕ
-lineSum t d line c =
-    sum (colsOf d) (λ j. lineFrom line (covered (pos c) (d .trailcol) j)) / 2 ^ t .q3 * 2 ^ (t .q1 + t .q2 + t .q3)
+-- place i of rectangle k's line
+unfoldable pub lineOf : Arrival → (k i : ℕ) → ℕ
+lineOf v k i = cond (ltb i 32) 0 (lineAt v k (pos (i - 32)) / 2 ^ v .table .q2)
 
--- the value of column c with a rectangle's part: by its line of truncated column sums, and by rectangle k at an arrival
-abbrev pub withLine : Table → Rect → (line acc : List ℕ) → ℕ → ℕ
-withLine t d line acc c = plus (getD acc c 0) (posPart (d .weight)) (negPart (d .weight)) (lineSum t d line c)
+-- an edge raised by 16, which is from 0 to 31
+abbrev pub place : (edge : ℤ) → ℕ
+place edge = posPart (edge +ℤ pos 16)
+
+-- the window sum of a rectangle along a line, whose first place is s from its trail's
+abbrev pub windowOver : Rect → (line : ℕ → ℕ) → (s : ℕ) → ℕ
+windowOver d line s = sum (colsOf d) (λ j. line (place (d .trailcol) + s + j))
+
+-- what enters a window at place i and what leaves it, modulo 2^32, where 2^32 - 1 times a number takes it off
+abbrev pub changeOver : Rect → (line : ℕ → ℕ) → (i : ℕ) → ℕ
+changeOver d line i = line (place (d .leadcol) + i) + 4294967295 * line (place (d .trailcol) + i)
+
+-- a rectangle's share of the value at place i: the change of its window sum, or where q3 is not 0 the truncated window sum
+unfoldable pub shareOver : Rect → (q3 : ℕ) → (line : ℕ → ℕ) → (i : ℕ) → ℕ
+shareOver d q3 line i = cond (eqb q3 0) (changeOver d line i) (windowOver d line (suc i) / 2 ^ q3)
+
+-- ---- values of 32 bits, modulo 2^32
+
+-- a weight times 2^q
+unfoldable pub factorOf : (weight : ℤ) → (q : ℕ) → ℕ
+factorOf weight q = (posPart weight + 4294967295 * negPart weight) * 2 ^ q % 4294967296
+
+-- the bits that a rectangle sum is scaled back by
+abbrev pub scale : Table → ℕ
+scale t = t .q1 + t .q2 + t .q3
+
+-- the value at place i with a rectangle's share
+abbrev pub withShare : Rect → (q3 q : ℕ) → (line : ℕ → ℕ) → (acc : List ℕ) → (i : ℕ) → ℕ
+withShare d q3 q line acc i = (getD acc i 0 + factorOf (d .weight) q * shareOver d q3 line i) % 4294967296
+
+-- the shares of the first k rectangles at place i
+unfoldable pub shares : Arrival → (k i : ℕ) → ℕ
+shares v k i =
+    sum k (λ j. let d = rect (v .table) j in factorOf (d .weight) (scale (v .table)) * shareOver d (v .table .q3) (lineOf v j) i)
+
+-- the accumulator holds the shares of the first k rectangles
+pub record Weighed (v : Arrival) (k : ℕ) (acc : List ℕ) : Type 0 where
+  pub long : v .width + 16 ≤ length acc
+  pub value : (i : ℕ) → i < v .width + 16 → getD acc i 0 ≡ shares v k i % 4294967296
+
+-- every value of the table has 32 bits: question 10 with no shift and a word of 32 bits
+abbrev pub unshifted : Table → Table
+unshifted t = record { b = t .b; q1 = t .q1; q2 = t .q2; q3 = t .q3; t = 0; w = 32; count = t .count; rects = t .rects }
+
+unfoldable pub narrowTable : Table → Bool
+narrowTable t = fitting (unshifted t)
+
+-- ---- values of 64 bits, each above its bias
+
+-- the value of column c with a rectangle's part: by its line, and by rectangle k at an arrival
+abbrev pub withLine : Rect → (q3 q : ℕ) → (line : ℕ → ℕ) → (acc : List ℕ) → (c : ℕ) → ℕ
+withLine d q3 q line acc c = plus (getD acc c 0) (posPart (d .weight)) (negPart (d .weight)) (windowOver d line (17 + c) / 2 ^ q3 * 2 ^ q)
 
 abbrev pub withPart : Arrival → (k : ℕ) → (acc : List ℕ) → ℕ → ℕ
 withPart v k acc c = let w = rect (v .table) k .weight in plus (getD acc c 0) (posPart w) (negPart w) (scaledAt v k c)
 
--- the accumulator holds the values of the first k rectangles, each above its bias
-pub record Accumulated (v : Arrival) (k : ℕ) (acc : List ℕ) : Type 0 where
-  pub long : 1024 ≤ length acc
+-- the accumulator holds the values of the first k rectangles
+pub record Summed (v : Arrival) (k : ℕ) (acc : List ℕ) : Type 0 where
+  pub long : v .width ≤ length acc
   pub value : (c : ℕ) → c < v .width → Diff (sumℤ k (λ i. rect (v .table) i .weight *ℤ pos (scaledAt v i c))) (getD acc c 0) bias
   pub low : (c : ℕ) → c < v .width → bias ≤ getD acc c 0 + k * partMost
   pub high : (c : ℕ) → c < v .width → getD acc c 0 ≤ bias + k * partMost
 
--- a line of 1,056 places with zeros but in the `width` places from place 16 on
-pub record ZeroPadded (width : ℕ) (line : List ℕ) : Type 0 where
-  pub places : length line ≡ 1056
-  pub before : (i : ℕ) → i < 16 → getD line i 0 ≡ 0
-  pub after : (i : ℕ) → 16 + width ≤ i → getD line i 0 ≡ 0
+-- ---- either
 
--- a row of 1,024 zeros
-pub record Zeros (zeros : List ℕ) : Type 0 where
-  pub long : length zeros ≡ 1024
-  pub none : (i : ℕ) → getD zeros i 0 ≡ 0
+-- one of two accumulators is used: values of 32 bits for a narrow table, else of 64
+pub record Accumulated (v : Arrival) (k : ℕ) (narrow : Bool) (acc wide : List ℕ) : Type 0 where
+  pub words : narrow ≡ true → Weighed v k acc
+  pub longs : narrow ≡ false → Summed v k wide
+
+-- the pixel of column c by its accumulator, whose running sums are the values where q3 is 0
+abbrev pub pixelOf : (narrow : Bool) → (q3 shift : ℕ) → (acc wide : List ℕ) → (c : ℕ) → ℤ
+pixelOf narrow q3 shift acc wide c =
+    cond narrow (roundedWord (cond (eqb q3 0) (running acc (16 + c)) (getD acc (16 + c) 0)) shift) (rounded (getD wide c 0) shift)
 
 -- ---- what each step asks
+
+-- a row of zeros
+pub record Zeros (width : ℕ) (zeros : List ℕ) : Type 0 where
+  pub long : width ≤ length zeros
+  pub none : (i : ℕ) → getD zeros i 0 ≡ 0
 
 -- `edge_row`: numbers within the paper's limits, and the row and the store of their lengths
 pub record EdgeFits (l a delay : ℕ) (row samples zeros : List ℕ) : Type 0 where
@@ -77,7 +129,7 @@ pub record EdgeFits (l a delay : ℕ) (row samples zeros : List ℕ) : Type 0 wh
   pub number-most : a ≤ 65550
   pub delay-most : delay ≤ 15
   pub ring : RingFits l (length row) (length samples)
-  pub zero-row : Zeros zeros
+  pub zero-row : Zeros l zeros
 
 -- all that go over rectangles: the table within the limits, its delay, and a sum for each rectangle and column
 pub record StepFits (v : Arrival) (delay : ℕ) (zeros : List ℕ) : Type 0 where
@@ -86,35 +138,99 @@ pub record StepFits (v : Arrival) (delay : ℕ) (zeros : List ℕ) : Type 0 wher
   pub edges : EdgeFits (v .width) (v .number) delay (v .row) (v .samples) zeros
   pub sums-long : v .table .count * v .width ≤ length (v .sums)
 
--- `rectangle`: one of the table's, values with room for one more, and a line and prefix sums of 1,056 places
-pub record RectangleFits (t : Table) (k width : ℕ) (acc line : List ℕ) (prefixes : ℕ) : Type 0 where
-  pub few : k < t .count
+-- a line with zeros but in the `width` places from place 32 on
+pub record ZeroPadded (width : ℕ) (line : List ℕ) : Type 0 where
+  pub places : width + 48 ≤ length line
+  pub before : (i : ℕ) → i < 32 → getD line i 0 ≡ 0
+  pub after : (i : ℕ) → 32 + width ≤ i → getD line i 0 ≡ 0
+
+-- the running sums of such a line, in its first `width` + 48 places
+pub record RunningSums (width : ℕ) (line summed : List ℕ) : Type 0 where
+  pub places : length summed ≡ length line
+  pub sums : (i : ℕ) → i < width + 48 → getD summed i 0 ≡ running line i
+  pub beyond : (i : ℕ) → width + 48 ≤ i → getD summed i 0 ≡ 0
+
+-- a line that is padded but in the 16 places after the row
+pub record Unpadded (width : ℕ) (line : List ℕ) : Type 0 where
+  pub places : width + 48 ≤ length line
+  pub before : (i : ℕ) → i < 32 → getD line i 0 ≡ 0
+  pub beyond : (i : ℕ) → width + 48 ≤ i → getD line i 0 ≡ 0
+
+-- a rectangle within the limits, and a padded line of truncated column sums whose windows are within theirs
+pub record LineFits (d : Rect) (q3 q width : ℕ) (line : List ℕ) : Type 0 where
+  pub edges : T (rectGood d)
+  pub weight : T (fitsSigned 16 (d .weight))
+  pub q3-most : q3 ≤ 8
+  pub q-most : q ≤ 27
+  pub width-most : width ≤ 1024
+  pub padded : ZeroPadded width line
+  pub small : (i : ℕ) → getD line i 0 ≤ boundMost
+  pub window : (s : ℕ) → windowOver d (λ i. getD line i 0) s / 2 ^ q3 * 2 ^ q < scaledEnd
+
+-- values of 64 bits with room for one rectangle more
+pub record ValuesFit (width : ℕ) (acc : List ℕ) : Type 0 where
   pub acc-long : width ≤ length acc
   pub value-least : (c : ℕ) → c < width → partMost ≤ getD acc c 0
   pub value-most : (c : ℕ) → c < width → getD acc c 0 ≤ valueMost
-  pub padded : ZeroPadded width line
-  pub prefixes-long : prefixes ≡ 1056
 
--- `accumulate_rectangle`: the line holds truncated column sums within their bound
-pub record LineFits (t : Table) (k width : ℕ) (acc line : List ℕ) (prefixes : ℕ) : Type 0 where
-  pub table : acceptable t ≡ true
+-- `rectangle`: one of the table's, a padded line, and an accumulator with room
+pub record RectangleFits (t : Table) (k width : ℕ) (narrow : Bool) (acc wide line : List ℕ) : Type 0 where
+  pub few : k < t .count
+  pub padded : ZeroPadded width line
+  pub words : narrow ≡ true → width + 16 ≤ length acc
+  pub longs : narrow ≡ false → ValuesFit width wide
+
+-- `write_pixels`
+pub record PixelsFit (narrow : Bool) (width shift out acc : ℕ) (wide : List ℕ) : Type 0 where
   pub width-most : width ≤ 1024
-  pub rectangle : RectangleFits t k width acc line prefixes
-  pub small : (i : ℕ) → getD line i 0 ≤ sumMost t (rect t k) / 2 ^ t .q2
+  pub out-long : width ≤ out
+  pub shift-most : shift ≤ 31
+  pub words : narrow ≡ true → width + 16 ≤ acc
+  pub longs-long : narrow ≡ false → width ≤ length wide
+  pub longs : narrow ≡ false → (c : ℕ) → c < width → RoundFits (getD wide c 0) shift
+
+-- `take`: an accumulator at its start, which has values of 32 bits only for a narrow table
+pub record TakeFits (v : Arrival) (delay : ℕ) (narrow : Bool) (out : ℕ) (acc wide line zeros : List ℕ) : Type 0 where
+  pub steps : StepFits v delay zeros
+  pub fits : narrow ≡ true → narrowTable (v .table) ≡ true
+  pub start : Accumulated v 0 narrow acc wide
+  pub padded : ZeroPadded (v .width) line
+  pub lent : v .width ≤ out
+
+-- an arrival that fits, with its delay
+abbrev pub RowFits : Arrival → (delay out : ℕ) → Type 0
+RowFits v delay out = Fits v out × (delay ≡ delayOf (v .table))
 
 -- ---- what each step leaves
 
--- `rectangle`: whether question 19 holds of it, its part in the values where it does, its sums updated, and the line still padded
-pub record Updated (v : Arrival) (k : ℕ) (good : Bool) (acc acc′ sums′ line′ : List ℕ) : Type 0 where
+-- `update_rectangle`: whether question 19 holds of it, its sums updated, and its line where it holds
+pub record Updated (v : Arrival) (k : ℕ) (good : Bool) (sums′ line′ : List ℕ) : Type 0 where
   pub answer : good ≡ all (v .width) (sumGood v k)
-  pub values : good ≡ true → acc′ ≡ tab (v .width) (withPart v k acc) ++ drop (v .width) acc
   pub sums : sums′ ≡ putMid (k * v .width) (v .width) (v .sums) (tab (v .width) (updatedSum v k))
   pub padded : ZeroPadded (v .width) line′
+  pub line : good ≡ true → (i : ℕ) → getD line′ i 0 ≡ lineOf v k i
+
+-- `rectangle`: the same, with its part in the values where question 19 holds
+pub record Added (v : Arrival) (k : ℕ) (narrow good : Bool) (acc wide acc′ wide′ sums′ line′ : List ℕ) : Type 0 where
+  pub answer : good ≡ all (v .width) (sumGood v k)
+  pub sums : sums′ ≡ putMid (k * v .width) (v .width) (v .sums) (tab (v .width) (updatedSum v k))
+  pub padded : ZeroPadded (v .width) line′
+  pub words : good ≡ true → narrow ≡ true
+      → acc′ ≡ tab (v .width + 16) (withShare (rect (v .table) k) (v .table .q3) (scale (v .table)) (lineOf v k) acc) ++ drop (v .width + 16) acc
+  pub longs : good ≡ true → narrow ≡ false → wide′ ≡ tab (v .width) (withPart v k wide) ++ drop (v .width) wide
 
 -- `values`: the first rectangle that fails question 19, or their number; where none fails, all values and sums, and else the sums
 -- up to that rectangle, its own included
-pub record AllUpdated (v : Arrival) (failed : ℕ) (acc sums : List ℕ) : Type 0 where
+pub record AllUpdated (v : Arrival) (failed : ℕ) (narrow : Bool) (acc wide sums : List ℕ) : Type 0 where
   pub first : failed ≡ firstNot (v .table .count) (λ k. all (v .width) (sumGood v k))
-  pub values : v .table .count ≤ failed → Accumulated v (v .table .count) acc
+  pub values : v .table .count ≤ failed → Accumulated v (v .table .count) narrow acc wide
   pub accepted : v .table .count ≤ failed → sums ≡ sumsAfter v
   pub refused : failed < v .table .count → sums ≡ grid (failed + 1) (v .width) (updatedSum v) ++ drop ((failed + 1) * v .width) (v .sums)
+
+-- `take`: the same place; refused, sums and output are as they were, and else those that an accepted arrival leaves
+pub record Taken (v : Arrival) (out : List ℤ) (failed : ℕ) (sums′ : List ℕ) (out′ : List ℤ) : Type 0 where
+  pub first : failed ≡ firstNot (v .table .count) (λ k. all (v .width) (sumGood v k))
+  pub refused-sums : failed < v .table .count → sums′ ≡ v .sums
+  pub refused-out : failed < v .table .count → out′ ≡ out
+  pub accepted-sums : v .table .count ≤ failed → sums′ ≡ sumsAfter v
+  pub accepted-out : v .table .count ≤ failed → out′ ≡ outputAfter v out

@@ -20,9 +20,11 @@ pub record Granted (t : Table) : Type 0 where
   pub q1-less : t .q1 < t .b
   pub q2-most : t .q2 ≤ 8
   pub q3-most : t .q3 ≤ 8
+  pub shift-most : t .t ≤ 31
   pub word-most : t .w ≤ 32
   pub some : 1 ≤ t .count
   pub few : t .count ≤ 16
+  pub edges : (k : ℕ) → k < t .count → T (rectGood (rect t k))
   pub bounds : (k : ℕ) → k < t .count → RectBounds (rect t k)
   pub weight : (k : ℕ) → k < t .count → T (fitsSigned 16 (rect t k .weight))
   pub value : T (valueGood (contents t))
@@ -49,9 +51,11 @@ granted t e =
       q1-less = ltb→lt _ _ (b1 .0);
       q2-most = leb→le _ _ (b2 .0);
       q3-most = leb→le _ _ (b2 .1);
+      shift-most = leb→le _ _ (c1 .0);
       word-most = leb→le _ _ (c2 .1);
       some = leb→le _ _ (d .0);
       few = leb→le _ _ (f .0);
+      edges = λ k l. slot k l .0;
       bounds = λ k l. rect-bounds (rect t k) (slot k l .0);
       weight = λ k l. slot k l .1;
       value = g .1;

@@ -1,31 +1,25 @@
--- Laws of window sums: a window is the difference of two prefix sums, and what a weighted one comes to.
+-- Laws of running sums and of differences, modulo 2^32, and of the part of a rectangle, its weight times a scaled sum.
 -- Assumes nothing.
-use Prim.Native.Nat.{ℕ, _+_, _-_, _*_, _%_, _≤_, _<_}
-use native.Mathlib.Nat.{mod-eq-of-lt, mul-le-mul}
+use Prim.Native.Nat.{ℕ, _+_, _*_, _%_, _≤_, _<_}
+use native.Mathlib.Nat.{div-add-mod, mod-add-mod, mod-eq-of-lt, mul-le-mul}
 use native.Mathlib.Omega.{arith}
 use mathlib.Core.Path.{_≡_, sym, ap, _∙_}
 use mathlib.Core.List.{List}
 use lib.ListN.{getD}
-use Rattle.arith.proofs.Parts.{part, part-at}
-use Rattle.arith.proofs.Sums.{sum-split}
-use Rattle.passes.specs.Passes.{prefix, window, partMost, scaledEnd}
+use Rattle.arith.proofs.Sums.{sum-suc}
+use Rattle.passes.specs.Passes.{prefix, running, less, partMost, scaledEnd}
 
--- the prefix sums before and after a window, lent as two parts
-module _
-    (line sums : List ℕ) (m base n width : ℕ) (is : (i : ℕ) → i < m → getD sums i 0 ≡ prefix line i) (ends : base + n + width ≤ m)
-    (c : ℕ) (h : c < width) where
-  after-is : getD (part (base + n) width sums) c 0 ≡ getD (part base width sums) c 0 + window line base n c
-  after-is =
-      let e : base + n + c ≡ base + c + n = omega arith in
-      part-at (base + n) width sums c h ∙ is (base + n + c) (omega arith) ∙ ap (prefix line) e
-      ∙ sum-split (base + c) n (λ j. getD line j 0)
-      ∙ ap (λ x. x + window line base n c) (sym (part-at base width sums c h ∙ is (base + c) (omega arith)))
+-- a place added to the sum of those before it
+pub running-next : (line : List ℕ) (i : ℕ) → (prefix line i % 4294967296 + getD line i 0) % 4294967296 ≡ running line i
+running-next line i =
+    mod-add-mod (prefix line i) 4294967296 (getD line i 0) ∙ ap (λ s. s % 4294967296) (sym (sum-suc i (λ j. getD line j 0)))
 
-  pub prefix-rises : getD (part base width sums) c 0 ≤ getD (part (base + n) width sums) c 0
-  prefix-rises = let e = after-is in omega arith
-
-  pub window-is : getD (part (base + n) width sums) c 0 - getD (part base width sums) c 0 ≡ window line base n c
-  window-is = let e = after-is in omega arith
+-- the difference of two places, as it is taken
+pub less-is : (p g d : ℕ) → d < 4294967296 → (d + g) % 4294967296 ≡ p → d ≡ less p g
+less-is p g d h e =
+    let q = div-add-mod (d + g) 4294967296 in
+    let r = div-add-mod (p + 4294967295 * g) 4294967296 in
+    omega arith
 
 -- a scaled sum is not cut at 32 bits
 pub scaled-exact : (x : ℕ) → x < scaledEnd → x % 4294967296 ≡ x

@@ -1,6 +1,6 @@
 -- What the passes over the columns of a row compute, each over plain lists, and what they ask.
 -- Assumes nothing.
-use Prim.Native.Nat.{ℕ, _+_, _-_, _*_, _/_, _%_, _^_, _≤_, _<_}
+use Prim.Native.Nat.{ℕ, suc, _+_, _-_, _*_, _/_, _%_, _^_, _≤_, _<_}
 use mathlib.Core.Path.{_≡_}
 use mathlib.Core.Bool.{Bool, _&&_}
 use mathlib.Core.List.{List}
@@ -9,12 +9,15 @@ use lib.IntN.{ℤ, subℕ}
 use lib.ListN.{length, getD}
 use Rattle.arith.specs.Floor.{floorDiv}
 use Rattle.arith.specs.Sum.{sum}
-use Rattle.arith.specs.Twos.{fitsSigned}
+use Rattle.arith.specs.Twos.{signed, fitsSigned}
 
 -- ---- column sums: a bound is below 2^17, and so is a place of a line
 
 abbrev pub boundMost : ℕ
 boundMost = 131071
+
+abbrev pub boundEnd : ℕ
+boundEnd = 131072
 
 -- a stored sum may move: the leaving sample is in it, and the result is within the bound
 abbrev pub movable : (stored off on bound : ℕ) → Bool
@@ -38,25 +41,29 @@ steppedAt sums off on q1 c = stepped (getD sums c 0) (truncated off q1 c) (trunc
 abbrev pub newAt : (sums off on : List ℕ) → (q1 q2 c : ℕ) → ℕ
 newAt sums off on q1 q2 c = (getD sums c 0 - truncated off q1 c + truncated on q1 c) / 2 ^ q2
 
--- ---- windows
+-- ---- lines, modulo 2^32
 
 -- the prefix sum of a line at place i: the sum of the i places before it
 abbrev pub prefix : List ℕ → (i : ℕ) → ℕ
 prefix line i = sum i (λ j. getD line j 0)
 
--- the sum of n places of a line, from place base + c on
-abbrev pub window : List ℕ → (base n c : ℕ) → ℕ
-window line base n c = sum n (λ j. getD line (base + c + j) 0)
+-- the running sum of a line at place i: the sum of the places up to it
+abbrev pub running : List ℕ → (i : ℕ) → ℕ
+running line i = prefix line (suc i) % 4294967296
 
--- the window sum between two prefix sums, truncated by q3 bits and scaled back by q
-abbrev pub scaled : (low high : List ℕ) → (q3 q c : ℕ) → ℕ
-scaled low high q3 q c = (getD high c 0 - getD low c 0) / 2 ^ q3 * 2 ^ q
+-- p less g, where 2^32 - 1 times a number takes it off
+abbrev pub less : (p g : ℕ) → ℕ
+less p g = (p + 4294967295 * g) % 4294967296
 
--- a value with weight times x, the weight being above - below
-abbrev pub plus : (value above below x : ℕ) → ℕ
-plus value above below x = value + above * x - below * x
+-- a value with m times the difference of two places, without its q low bits
+abbrev pub weighed : (value m p g q : ℕ) → ℕ
+weighed value m p g q = (value + m * (less p g / 2 ^ q)) % 4294967296
 
--- ---- values: each stands above 2^41, a rectangle adds or takes off at most 2^37, and a scaled window sum is below 2^22
+-- the pixel of a value: as a signed number, divided by 2^shift and rounded down
+abbrev pub roundedWord : (value shift : ℕ) → ℤ
+roundedWord value shift = floorDiv (signed 32 value) shift
+
+-- ---- values of 64 bits: each stands above 2^41, a rectangle adds or takes off at most 2^37, and a scaled window sum is below 2^22
 
 abbrev pub bias : ℕ
 bias = 2199023255552
@@ -70,6 +77,14 @@ partMost = 137438953472
 abbrev pub scaledEnd : ℕ
 scaledEnd = 4194304
 
+-- the difference of two places, truncated by q3 bits and scaled back by q
+abbrev pub scaled : (lead trail : List ℕ) → (q3 q c : ℕ) → ℕ
+scaled lead trail q3 q c = less (getD lead c 0) (getD trail c 0) / 2 ^ q3 * 2 ^ q
+
+-- a value with weight times x, the weight being above - below
+abbrev pub plus : (value above below x : ℕ) → ℕ
+plus value above below x = value + above * x - below * x
+
 -- the pixel of a value: without the bias, divided by 2^shift and rounded down
 abbrev pub rounded : (value shift : ℕ) → ℤ
 rounded value shift = floorDiv (subℕ value bias) shift
@@ -81,7 +96,6 @@ pub record UpdateFits (n bound q1 q2 line sums off on : ℕ) : Type 0 where
   pub sums-long : n ≤ sums
   pub off-long : n ≤ off
   pub on-long : n ≤ on
-  pub few : n ≤ 1024
   pub bound-most : bound ≤ boundMost
   pub q1-most : q1 ≤ 11
   pub q2-most : q2 ≤ 8
@@ -92,23 +106,22 @@ pub record RollBackFits (n q1 sums off on : ℕ) : Type 0 where
   pub on-long : n ≤ on
   pub q1-most : q1 ≤ 11
 
-pub record PrefixFits (n : ℕ) (line : List ℕ) (sums : ℕ) : Type 0 where
-  pub few : n ≤ 1056
-  pub line-long : n ≤ length line
-  pub sums-long : n ≤ sums
-  pub small : (i : ℕ) → getD line i 0 ≤ boundMost
+pub record WeighFits (n q acc lead trail : ℕ) : Type 0 where
+  pub acc-long : n ≤ acc
+  pub lead-long : n ≤ lead
+  pub trail-long : n ≤ trail
+  pub q-most : q ≤ 8
 
-pub record AccumulateFits (n q3 q above below : ℕ) (acc low high : List ℕ) : Type 0 where
+pub record AccumulateFits (n q3 q above below : ℕ) (acc lead trail : List ℕ) : Type 0 where
   pub acc-long : n ≤ length acc
-  pub low-long : n ≤ length low
-  pub high-long : n ≤ length high
+  pub lead-long : n ≤ length lead
+  pub trail-long : n ≤ length trail
   pub q3-most : q3 ≤ 8
   pub q-most : q ≤ 27
   pub above-most : above ≤ 32768
   pub below-most : below ≤ 32768
   pub one-sign : 0 < below → above ≡ 0
-  pub rising : (c : ℕ) → c < n → getD low c 0 ≤ getD high c 0
-  pub small : (c : ℕ) → c < n → scaled low high q3 q c < scaledEnd
+  pub small : (c : ℕ) → c < n → scaled lead trail q3 q c < scaledEnd
   pub value-least : (c : ℕ) → c < n → partMost ≤ getD acc c 0
   pub value-most : (c : ℕ) → c < n → getD acc c 0 ≤ valueMost
 
@@ -116,7 +129,12 @@ pub record RoundFits (value shift : ℕ) : Type 0 where
   pub value-most : value ≤ valueMost
   pub in-word : T (fitsSigned 32 (rounded value shift))
 
-pub record WriteFits (n shift out : ℕ) (acc : List ℕ) : Type 0 where
+pub record WriteFits (n shift out acc : ℕ) : Type 0 where
+  pub out-long : n ≤ out
+  pub acc-long : n ≤ acc
+  pub shift-most : shift ≤ 31
+
+pub record WriteWideFits (n shift out : ℕ) (acc : List ℕ) : Type 0 where
   pub out-long : n ≤ out
   pub acc-long : n ≤ length acc
   pub values : (c : ℕ) → c < n → RoundFits (getD acc c 0) shift

@@ -1,11 +1,16 @@
 // Inner: the loops over the columns of a row, on plain slices and numbers; none knows a table. Column sums are updated and asked, or
-// rolled back; prefix sums are taken of a line; weighted window sums are accumulated; and the pixels of a row are written.
+// rolled back; a line is made its running sums; differences of two lines are weighed into values, of 32 bits modulo 2^32 or of 64; and
+// the pixels of a row are written.
+mod lines;
 mod pixels;
 mod sums;
-mod windows;
+mod values;
 
-pub use pixels::write_row;
+pub use lines::running_sums;
+pub use lines::zero_line;
+pub use pixels::write_narrow;
+pub use pixels::write_wide;
 pub use sums::roll_back;
-pub use sums::update_sums;
-pub use windows::accumulate;
-pub use windows::prefix_sums;
+pub use sums::update_line;
+pub use values::accumulate;
+pub use values::weigh;

@@ -1,46 +1,38 @@
 // Column sums, carried along in two steps: the leaving sample off, then the entering one on.
 ghost use mathlib.Core.Path.{_≡_};
-ghost use mathlib.Core.Bool.{cond};
 ghost use mathlib.Core.List.{_++_};
 ghost use Prim.Native.Nat.{_≤_};
-ghost use lib.Dec.{T, leb, eqb};
+ghost use lib.Dec.{T, ltb};
 ghost use lib.ListN.{length, drop};
 ghost use Rattle.arith.specs.Tab.{tab};
 ghost use Rattle.arith.specs.All.{all};
-ghost use Rattle.passes.specs.Passes.{boundMost, movable, stepped, movableAt, steppedAt, newAt, UpdateFits, RollBackFits};
+ghost use Rattle.passes.specs.Passes.{boundMost, boundEnd, movable, stepped, movableAt, steppedAt, newAt, UpdateFits, RollBackFits};
 use std::num::wrapping_add_u32;
 use std::num::wrapping_sub_u32;
 
-// 1 where a number is past a bound, else 0.
-fn past(n: u32, bound: u32) -> u32
-    ensures { λ r. ⌜ r ≡ cond (leb n bound) 0 1 ⌝ }
-{
-    if n <= bound { 0 } else { 1 }
-}
-
-// A column sum after both steps, and how many of the two came out past the bound.
+// A column sum after both steps, and a number below 2^17 exactly where both stay within the bound.
 struct Change {
     sum: u32,
     past: u32,
 }
 
-// Both steps of a column sum. A store may hold any number, so they wrap; a step that does comes out past the bound.
+// Both steps of a column sum. A store may hold any number, so they wrap: after the leaving sample a good sum is below 2^17, and so is
+// what is left to the bound after the entering one.
 fn move_sum(stored: u32, off: u16, on: u16, bound: u32) -> Change
     requires { ⌜ bound ≤ boundMost ⌝ }
-    ensures { λ m. ⌜ eqb (m .past) 0 ≡ movable stored off on bound ⌝ }
-    ensures { λ m. ⌜ m .past ≤ 2 ⌝ }
+    ensures { λ m. ⌜ ltb (m .past) boundEnd ≡ movable stored off on bound ⌝ }
     ensures { λ m. ⌜ m .sum ≡ stepped stored off on ⌝ }
 {
     let less = wrapping_sub_u32(stored, off as u32);
     let sum = wrapping_add_u32(less, on as u32);
     Change {
         sum,
-        past: past(less, bound) + past(sum, bound),
+        past: less | wrapping_sub_u32(bound, sum),
     }
 }
 
 // Both steps of n column sums, in place, the truncated sums into a line, and whether each step of each came out within the bound.
-pub fn update_sums(
+fn update_sums(
     line: &mut [u32],
     sums: &mut [u32],
     off: &[u16],
@@ -57,16 +49,41 @@ pub fn update_sums(
     ensures { λ _. ⌜ now (sums .exit)
         ≡ tab n (steppedAt (now (sums .entry)) (now (off .entry)) (now (on .entry)) q1) ++ drop n (now (sums .entry)) ⌝ }
 {
-    let mut failed = 0;
+    let mut past: u32 = 0;
     let mut c = 0;
     while c < n {
         let m = move_sum(sums[c], off[c] >> q1, on[c] >> q1, bound);
-        failed += m.past;
+        past = past | m.past;
         sums[c] = m.sum;
         line[c] = m.sum >> q2;
         c += 1;
     }
-    failed == 0
+    past < 131072
+}
+
+// The same, compiled apart for sums that drop nothing, which is faster.
+pub fn update_line(
+    line: &mut [u32],
+    sums: &mut [u32],
+    off: &[u16],
+    on: &[u16],
+    n: usize,
+    bound: u32,
+    q1: u8,
+    q2: u8,
+) -> bool
+    requires { ⌜ UpdateFits n bound q1 q2 (length (now line)) (length (now sums)) (length (now off)) (length (now on)) ⌝ }
+    ensures { λ g. ⌜ g ≡ all n (movableAt (now (sums .entry)) (now (off .entry)) (now (on .entry)) bound q1) ⌝ }
+    ensures { λ g. ⌜ (T g → now (line .exit)
+        ≡ tab n (newAt (now (sums .entry)) (now (off .entry)) (now (on .entry)) q1 q2) ++ drop n (now (line .entry))) ⌝ }
+    ensures { λ _. ⌜ now (sums .exit)
+        ≡ tab n (steppedAt (now (sums .entry)) (now (off .entry)) (now (on .entry)) q1) ++ drop n (now (sums .entry)) ⌝ }
+{
+    if q1 + q2 == 0 {
+        update_sums(line, sums, off, on, n, bound, 0, 0)
+    } else {
+        update_sums(line, sums, off, on, n, bound, q1, q2)
+    }
 }
 
 // Both steps of n column sums rolled back, in place: the entering sample off, then the leaving one on.

@@ -118,17 +118,22 @@ under-extreme part t s h =
     subst (λ e. sum (t .count) (λ k. part (rect t k .weight) * s k) ≤ e) (sum-scale (t .count) (2 ^ t .b - 1) (terms part t))
     (sum-mono (t .count) (λ k l. let m = mul-le-mul-left (part (rect t k .weight)) (h k l) in omega arith))
 
--- their weighted sum, divided and rounded down, fits the pixel word
+-- their weighted sum, divided and rounded down, fits the pixel word where question 10 holds
+pub extremes-fit :
+    (t : Table) → T (valueGood (contents t))
+    → (s : ℕ → ℕ) → ((k : ℕ) → k < t .count → s k ≤ rowsOf (rect t k) * colsOf (rect t k) * (2 ^ t .b - 1))
+    → T (fitsSigned (t .w) (floorDiv (sumℤ (t .count) (λ k. rect t k .weight *ℤ pos (s k))) (t .t)))
+extremes-fit t g s h =
+    let v = and-yes (ltb ((2 ^ t .b - 1) * sum (t .count) (terms posPart t) / 2 ^ t .t) (2 ^ (t .w - 1))) _ (subst T (value-slots t) g) in
+    let low : (2 ^ t .b - 1) * sum (t .count) (terms negPart t) ≤ 2 ^ (t .w - 1) * 2 ^ t .t =
+    subst (λ n. (2 ^ t .b - 1) * sum (t .count) (terms negPart t) ≤ n) (pow-add 2 (t .w - 1) (t .t)) (leb→le _ _ (v .1)) in
+    floor-fits (t .w) (t .t) _ (weighted t s) (under-extreme posPart t s h) (under-extreme negPart t s h) (ltb→lt _ _ (v .0)) low
+
 pub value-fits :
     (t : Table) → acceptable t ≡ true
     → (s : ℕ → ℕ) → ((k : ℕ) → k < t .count → s k ≤ rowsOf (rect t k) * colsOf (rect t k) * (2 ^ t .b - 1))
     → T (fitsSigned (t .w) (floorDiv (sumℤ (t .count) (λ k. rect t k .weight *ℤ pos (s k))) (t .t)))
-value-fits t a s h =
-    let g = granted t a in
-    let v = and-yes (ltb ((2 ^ t .b - 1) * sum (t .count) (terms posPart t) / 2 ^ t .t) (2 ^ (t .w - 1))) _ (subst T (value-slots t) (g .value)) in
-    let low : (2 ^ t .b - 1) * sum (t .count) (terms negPart t) ≤ 2 ^ (t .w - 1) * 2 ^ t .t =
-    subst (λ n. (2 ^ t .b - 1) * sum (t .count) (terms negPart t) ≤ n) (pow-add 2 (t .w - 1) (t .t)) (leb→le _ _ (v .1)) in
-    floor-fits (t .w) (t .t) _ (weighted t s) (under-extreme posPart t s h) (under-extreme negPart t s h) (ltb→lt _ _ (v .0)) low
+value-fits t a = extremes-fit t (granted t a .value)
 
 -- P2: the pixel fits the pixel word
 pub pixel-fits :

@@ -64,9 +64,7 @@ returns c =
     let s = w .before .before .before .before in
     let a = s .args in
     let z = s .pre .zero-row in
-    let l = z .long in
-    let m = s .pre .width-most in
-    first-tab (a .width - 0) (a .width) (now (a .zeros)) (omega arith) (omega arith)
+    first-tab (a .width - 0) (a .width) (now (a .zeros)) (omega arith) (z .long)
     ∙ tab-cong (a .width)
     (λ k h. z .none k ∙ at-below (a .width) (a .arrival) (a .delay) (now (a .row)) (now (a .samples)) (raised w) (c .before .if1 .taken) k)
 

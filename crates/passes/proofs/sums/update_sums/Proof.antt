@@ -1,37 +1,36 @@
--- `passes::update_sums` is two passes in one loop, over the sums and, where every sum so far may move, over the line; the failures so
--- far are 0 exactly when all of them may.
+-- `passes::update_sums` is two passes in one loop, over the sums and, where every sum so far may move, over the line; what is gathered
+-- so far is below 2^17 exactly when all of them may.
 -- Assumes nothing.
-use Prim.Native.Nat.{ℕ, _+_, _-_, _*_, _/_, _^_, _≤_}
+use Prim.Native.Nat.{ℕ, _+_, _-_, _/_, _^_}
 use native.Mathlib.Numerals.{add-one}
 use native.Mathlib.Omega.{arith}
 use mathlib.Core.Path.{_≡_, refl, sym, ap, ap₂, subst, _∙_}
 use mathlib.Core.Bool.{_&&_}
 use mathlib.Core.List.{List}
-use lib.Dec.{T, eqb}
+use lib.Dec.{T, ltb}
 use lib.ListN.{length, length-set}
 use mir.Facts.{and-yes}
 use borrow.Author.Needs.{needs}
 use Rattle.arith.specs.All.{all}
 use Rattle.arith.proofs.Alls.{all-suc}
 use Rattle.arith.proofs.Passes.{Pass, none-done, one-more, all-done, next-place}
-use Rattle.passes.specs.Passes.{movableAt, steppedAt, newAt}
-use Rattle.passes.proofs.Steps.{none-more, step-exact}
+use Rattle.passes.specs.Passes.{boundEnd, movableAt, steppedAt, newAt}
+use Rattle.passes.proofs.Steps.{or-below, step-exact}
 use Rattle.passes.proofs.sums.update_sums.Statement.{statement}
 use Rattle.passes.proofs.sums.update_sums.Tie as tie
 
 -- the first c columns are done
-record Done (n bound q1 q2 : ℕ) (line₀ sums₀ off on : List ℕ) (c failed : ℕ) (line sums : List ℕ) : Type 0 where
+record Done (n bound q1 q2 : ℕ) (line₀ sums₀ off on : List ℕ) (c past : ℕ) (line sums : List ℕ) : Type 0 where
   updated : Pass n (steppedAt sums₀ off on q1) sums₀ c sums
   written : T (all c (movableAt sums₀ off on bound q1)) → Pass n (newAt sums₀ off on q1 q2) line₀ c line
   line-long : length line ≡ length line₀
-  none-failed : eqb failed 0 ≡ all c (movableAt sums₀ off on bound q1)
-  failed-most : failed ≤ 2 * c
+  none-past : ltb past boundEnd ≡ all c (movableAt sums₀ off on bound q1)
 
 abbrev Inv-loop : tie.InvT-loop
-Inv-loop line₀ sums₀ off on n bound q1 q2 failed₀ c₀ line sums failed c = Done n bound q1 q2 line₀ sums₀ off on c failed line sums
+Inv-loop line₀ sums₀ off on n bound q1 q2 past₀ c₀ line sums past c = Done n bound q1 q2 line₀ sums₀ off on c past line sums
 
 abbrev μ-loop : tie.MeasureT-loop
-μ-loop line₀ sums₀ off on n bound q1 q2 failed₀ c₀ line sums failed c = n - c
+μ-loop line₀ sums₀ off on n bound q1 q2 past₀ c₀ line sums past c = n - c
 
 loop-holds : tie.Need-loop-holds Inv-loop μ-loop
 unfolding all
@@ -42,8 +41,7 @@ loop-holds c =
       updated = none-done _ _ (a .sums .now) (s .pre .sums-long);
       written = λ t. none-done _ _ (a .line .now) (s .pre .line-long);
       line-long = refl;
-      none-failed = refl;
-      failed-most = search needs;
+      none-past = refl;
     }
 
 mul-move-sum : tie.Need-mul-move-sum Inv-loop μ-loop
@@ -72,13 +70,6 @@ shr-move-sum-2 c = search needs
 
 move-sum-requires : tie.Need-move-sum-requires Inv-loop μ-loop
 move-sum-requires c κs = search needs
-
-add-failed : tie.Need-add-failed Inv-loop μ-loop
-add-failed c =
-    let h = c .before .before .before .before .before .before .loop .inv in
-    let m = c .before .move-sum .ensures .1 .0 in
-    let n = c .before .before .before .before .before .before .before .before .before .before .before .pre .few in
-    search (needs, h, m, n)
 
 mul-sums : tie.Need-mul-sums Inv-loop μ-loop
 mul-sums c = search needs
@@ -112,7 +103,7 @@ loop-again c =
     let t = c .before .before .before .before .before .before .loop-test .taken in
     let good = movableAt (a .sums .now) (a .off .now) (a .on .now) (a .bound) (a .q1) in
     let at = next-place (h .updated) 0 in
-    let sum : m .result .sum ≡ steppedAt (a .sums .now) (a .off .now) (a .on .now) (a .q1) k = rw at at (m .ensures .1 .1) in
+    let sum : m .result .sum ≡ steppedAt (a .sums .now) (a .off .now) (a .on .now) (a .q1) k = rw at at (m .ensures .1) in
     let e : all (k + 1) good ≡ (all k good && good k) = rw (add-one k) (all-suc k good) in
     record {
       updated = one-more (h .updated) t sum;
@@ -121,8 +112,7 @@ loop-again c =
           let b = and-yes (all k good) (good k) (subst T e p) in
           one-more (h .written (b .0)) t (ap (λ x. x / 2 ^ a .q2) (sum ∙ step-exact _ _ _ (a .bound) (s .pre .bound-most) (b .1)));
       line-long = length-set (l .loop .line) k _ ∙ h .line-long;
-      none-failed = none-more (l .loop .failed) (m .result .past) ∙ ap₂ _&&_ (h .none-failed) (rw at at (m .ensures .0)) ∙ sym e;
-      failed-most = omega (arith, m .ensures);
+      none-past = or-below (l .loop .past) (m .result .past) ∙ ap₂ _&&_ (h .none-past) (rw at at (m .ensures .0)) ∙ sym e;
     }
 
 same-length : tie.Need-same-length Inv-loop μ-loop
@@ -138,8 +128,8 @@ returns c =
     let o = c .loop-test .left in
     let u = h .updated .count in
     let e : c .before .loop .c ≡ a .n = omega arith in (
-      h .none-failed ∙ ap (λ n. all n (movableAt (a .sums .now) (a .off .now) (a .on .now) (a .bound) (a .q1))) e,
-      ((λ g. all-done (h .written (subst T (h .none-failed) g)) o), all-done (h .updated) o),
+      h .none-past ∙ ap (λ n. all n (movableAt (a .sums .now) (a .off .now) (a .on .now) (a .bound) (a .q1))) e,
+      ((λ g. all-done (h .written (subst T (h .none-past) g)) o), all-done (h .updated) o),
     )
 
 pub update-sums-spec : {M : Type 1} → statement M
@@ -158,7 +148,6 @@ update-sums-spec =
     shared-slice-read-move-sum-2
     shr-move-sum-2
     move-sum-requires
-    add-failed
     mul-sums
     slice-write-sums
     shr-line

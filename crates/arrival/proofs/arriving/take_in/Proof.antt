@@ -1,0 +1,69 @@
+-- `arrival::take_in` takes values of 32 bits where the table is narrow, and short lines where the row is.
+-- Assumes nothing.
+use mathlib.Core.Path.{sym, _∙_}
+use borrow.Author.Needs.{needs}
+use Rattle.arrival.proofs.arriving.take_in.Statement.{statement}
+use Rattle.arrival.proofs.arriving.take_in.Tie as tie
+
+narrow-requires : tie.Need-narrow-requires
+narrow-requires c κs = search needs
+
+take-short-requires : tie.Need-take-short-requires
+take-short-requires c κs =
+    let t = c .before .before in
+    let n = t .before .before in
+    (n .before .before .before .before .pre, sym (n .narrow .ensures) ∙ t .before .if1 .taken, t .if2 .taken)
+
+take-long-requires : tie.Need-take-long-requires
+take-long-requires c κs =
+    let t = c .before .before .before in
+    let n = t .before in
+    (n .before .before .before .before .pre, sym (n .narrow .ensures) ∙ t .if1 .taken)
+
+take-wide-requires : tie.Need-take-wide-requires
+take-wide-requires c κs = search needs
+
+same-length : tie.Need-same-length
+same-length c = search needs
+
+same-length-2 : tie.Need-same-length-2
+same-length-2 c = search needs
+
+returns : tie.Need-returns
+returns c = search needs
+
+same-length-3 : tie.Need-same-length-3
+same-length-3 c = search needs
+
+same-length-4 : tie.Need-same-length-4
+same-length-4 c = search needs
+
+returns-2 : tie.Need-returns-2
+returns-2 c = search needs
+
+same-length-5 : tie.Need-same-length-5
+same-length-5 c = search needs
+
+same-length-6 : tie.Need-same-length-6
+same-length-6 c = search needs
+
+returns-3 : tie.Need-returns-3
+returns-3 c = search needs
+
+pub take-in-spec : {M : Type 1} → statement M
+take-in-spec =
+    tie.close
+    (tie.spec
+    narrow-requires
+    take-short-requires
+    take-long-requires
+    take-wide-requires
+    same-length
+    same-length-2
+    returns
+    same-length-3
+    same-length-4
+    returns-2
+    same-length-5
+    same-length-6
+    returns-3)
