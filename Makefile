@@ -4,7 +4,8 @@
 # make examples  the header compiled as C and C++, the C example run
 # make outside   the library, through its C interface, beside a filter written separately from the papers
 # make programs  stripfilter and listing as a user meets them: options, faults, input in pieces, beside a filter in Python
-# make bench     the speed of the engine and of the ranked window beside C loops, and the program's beside the engine
+# make bench     the speed of the engine and of the ranked window beside C loops, and the program's beside the engine; BEFORE=folder takes
+#                the library of another commit in turn with this one
 # make scan      makes the strips under scans/ again
 # make edits CRATE=name   tries one crate's must-fail edits: where each is refused, and whether that is at a fact
 # make tidy      names in docs/PROMISES.md that do not exist, definitions that nothing uses
@@ -62,7 +63,7 @@ bench: lib
 	@gcc -O2 -Wall -Wextra -Ibuild bench/program.c build/libstrip.a -o build/bench-program
 	@build/bench-program target/bin/stripfilter tables/a.table build
 	@build/bench-program target/bin/stripfilter tables/even.table build
-	@bench/run.sh
+	@BEFORE="$(BEFORE)" bench/run.sh
 
 scan:
 	@python3 scans/make.py

@@ -1,9 +1,10 @@
-/* The engine's speed through strip_scan_row, beside three C loops on the same scan:
-   plain   the same algorithm, no checks, one rectangle at a time, tests at the row's ends
-   tuned   the same with zero margins and four rectangles a pass
-   direct  every covered sample added afresh for each pixel
-   bench                       all figures
-   bench LOOP RECTS DROPS ROWS one loop once, for instruction counts */
+/* The engine's speed through strip_scan_row, beside C loops on the same scan, which ask nothing:
+   remainder  the same algorithm, the place of each sample in the store found by a remainder
+   before     the engine of another library, its calls renamed old_strip_...; only where BEFORE is defined
+   tuned      column sums of all rectangles, zero margins, four sliding windows a pass; no shift where nothing is dropped
+   direct     every covered sample added afresh for each pixel
+   bench                        all figures
+   bench LOOP RECTS DROPS ROWS  one loop once, for instruction counts; DROPS as in 230 */
 #include "strip.h"
 #include <stdbool.h>
 #include <stdint.h>
@@ -29,9 +30,10 @@ static filter state;
 static int32_t out[WIDTH];
 static uint16_t rows[64][WIDTH];
 
+/* drops: the digits are q1, q2 and q3 */
 static strip_table make_table(size_t rects, int drops, int half)
 {
-    strip_table t = {.b = 12, .q1 = (uint8_t)drops, .q2 = (uint8_t)drops, .q3 = (uint8_t)drops, .t = 8, .w = 32, .count = rects};
+    strip_table t = {.b = 12, .q1 = (uint8_t)(drops / 100), .q2 = (uint8_t)(drops / 10 % 10), .q3 = (uint8_t)(drops % 10), .t = 8, .w = 32, .count = rects};
     for (size_t k = 0; k < rects; k++) {
         strip_rect r = {(int8_t)half, (int8_t)half, (int8_t)(-half - 1), (int8_t)(-half - 1), (int16_t)(k % 2 ? -31 : 37)};
         if (k && half > 2) {
@@ -63,7 +65,14 @@ static void settle(const filter *f, const int64_t *value)
             out[c] = (int32_t)((value[c] * ((int64_t)1 << q)) >> f->table.t);
 }
 
-static void plain_row(filter *f, const uint16_t *row)
+/* sample c of the row that an edge reaches */
+static uint32_t sample(const filter *f, int edge, long c)
+{
+    long row = (long)f->arrival - f->delay + edge;
+    return row < 0 ? 0 : f->samples[(size_t)(row % STRIP_KEPT_ROWS) * f->width + (size_t)c];
+}
+
+static void remainder_row(filter *f, const uint16_t *row)
 {
     static int64_t value[WIDTH];
     const strip_table *t = &f->table;
@@ -72,10 +81,9 @@ static void plain_row(filter *f, const uint16_t *row)
     memset(value, 0, sizeof value);
     for (size_t k = 0; k < t->count; k++) {
         strip_rect r = t->rects[k];
-        const uint16_t *on = kept(f, r.leadrow), *off = kept(f, r.trailrow);
         uint32_t *sums = f->sums + k * f->width, s = 0;
         for (long c = 0; c < width; c++)
-            sums[c] = sums[c] - (off[c] >> t->q1) + (on[c] >> t->q1);
+            sums[c] = sums[c] - (sample(f, r.trailrow, c) >> t->q1) + (sample(f, r.leadrow, c) >> t->q1);
         for (long c = r.trailcol + 1; c < r.leadcol; c++)
             s += c >= 0 && c < width ? sums[c] >> t->q2 : 0;
         for (long c = 0; c < width; c++) {
@@ -91,31 +99,51 @@ static void plain_row(filter *f, const uint16_t *row)
 
 static uint32_t lines[STRIP_RECTS][LINE];
 
-/* four rectangles a pass; a missing one has weight 0 */
-static void four(const filter *f, size_t k, int64_t *restrict value)
+/* the column sums of one rectangle moved, and cut into its line */
+static inline __attribute__((always_inline)) void move(filter *f, size_t k, int q1, int q2)
 {
-    const strip_table *t = &f->table;
+    const uint16_t *restrict on = kept(f, f->table.rects[k].leadrow), *restrict off = kept(f, f->table.rects[k].trailrow);
+    uint32_t *restrict sums = f->sums + k * f->width, *restrict line = lines[k] + MARGIN;
+    for (size_t c = 0; c < f->width; c++) {
+        sums[c] = sums[c] - (uint32_t)(off[c] >> q1) + (uint32_t)(on[c] >> q1);
+        line[c] = sums[c] >> q2;
+    }
+}
+
+/* the windows of n rectangles slid along a row */
+static inline __attribute__((always_inline)) void slide(const filter *f, size_t k, int n, int64_t *restrict value, int q3)
+{
     const uint32_t *lead[4], *trail[4];
     uint32_t s[4] = {0, 0, 0, 0};
-    int64_t weight[4] = {0, 0, 0, 0};
-    for (size_t i = 0; i < 4; i++) {
-        size_t j = k + i < t->count ? k + i : k;
-        strip_rect r = t->rects[j];
-        lead[i] = lines[j] + MARGIN + r.leadcol;
-        trail[i] = lines[j] + MARGIN + r.trailcol + 1;
-        weight[i] = k + i < t->count ? r.weight : 0;
+    int64_t weight[4];
+    for (int i = 0; i < n; i++) {
+        strip_rect r = f->table.rects[k + (size_t)i];
+        lead[i] = lines[k + (size_t)i] + MARGIN + r.leadcol;
+        trail[i] = lines[k + (size_t)i] + MARGIN + r.trailcol + 1;
+        weight[i] = r.weight;
         for (const uint32_t *p = trail[i]; p < lead[i]; p++)
             s[i] += *p;
     }
     for (size_t c = 0; c < f->width; c++) {
         int64_t v = value[c];
-        for (int i = 0; i < 4; i++) {
+        for (int i = 0; i < n; i++) {
             s[i] += lead[i][c];
-            v += weight[i] * (int64_t)(s[i] >> t->q3);
+            v += weight[i] * (int64_t)(s[i] >> q3);
             s[i] -= trail[i][c];
         }
         value[c] = v;
     }
+}
+
+static inline __attribute__((always_inline)) void tuned(filter *f, int64_t *value, int q1, int q2, int q3)
+{
+    size_t k = 0, count = f->table.count;
+    for (size_t i = 0; i < count; i++)
+        move(f, i, q1, q2);
+    for (; k + 4 <= count; k += 4)
+        slide(f, k, 4, value, q3);
+    for (; k < count; k++)
+        slide(f, k, 1, value, q3);
 }
 
 static void tuned_row(filter *f, const uint16_t *row)
@@ -124,16 +152,10 @@ static void tuned_row(filter *f, const uint16_t *row)
     const strip_table *t = &f->table;
     keep(f, row);
     memset(value, 0, sizeof value);
-    for (size_t k = 0; k < t->count; k++) {
-        const uint16_t *restrict on = kept(f, t->rects[k].leadrow), *restrict off = kept(f, t->rects[k].trailrow);
-        uint32_t *restrict sums = f->sums + k * f->width, *restrict line = lines[k] + MARGIN;
-        for (size_t c = 0; c < f->width; c++) {
-            sums[c] = sums[c] - (off[c] >> t->q1) + (on[c] >> t->q1);
-            line[c] = sums[c] >> t->q2;
-        }
-    }
-    for (size_t k = 0; k < t->count; k += 4)
-        four(f, k, value);
+    if (t->q1 + t->q2 + t->q3 == 0)
+        tuned(f, value, 0, 0, 0);
+    else
+        tuned(f, value, t->q1, t->q2, t->q3);
     settle(f, value);
 }
 
@@ -171,12 +193,35 @@ static void engine_row(filter *f, const uint16_t *row)
     f->scan = a.scan;
 }
 
+#ifdef BEFORE
+strip_answer old_strip_scan_row(strip_scan, const uint16_t *, size_t, uint16_t *, size_t, uint32_t *, size_t, int32_t *, size_t);
+
+static void before_row(filter *f, const uint16_t *row)
+{
+    strip_answer a = old_strip_scan_row(f->scan, row, f->width, f->samples, STRIP_SAMPLES(f->width), f->sums,
+                                        STRIP_SUMS(f->table.count, f->width), out, f->width);
+    if (a.kind == STRIP_REFUSED)
+        exit(3);
+    f->scan = a.scan;
+}
+#endif
+
 typedef struct {
     const char *name;
     void (*row)(filter *, const uint16_t *);
 } loop;
 
-static const loop loops[] = {{"engine", engine_row}, {"plain", plain_row}, {"tuned", tuned_row}, {"direct", direct_row}};
+static const loop loops[] = {
+    {"engine", engine_row},
+#ifdef BEFORE
+    {"before", before_row},
+#endif
+    {"tuned", tuned_row}, {"remainder", remainder_row}, {"direct", direct_row},
+};
+
+enum { LOOPS = sizeof loops / sizeof *loops, TUNED = LOOPS - 3, TIMED = LOOPS - 1, TIMES = 40 };
+
+static const int drops[] = {0, 111, 230};
 
 static uint64_t checksum;
 
@@ -211,64 +256,82 @@ static double run(loop l, strip_table t, size_t width, int n)
     return (double)(b.tv_sec - a.tv_sec) + (double)(b.tv_nsec - a.tv_nsec) * 1e-9;
 }
 
-/* ns per sample and rectangle, the best of several scans */
-static double best(loop l, strip_table t, size_t width, int n, int times)
+/* ns per sample and rectangle of the first n loops: the best of several scans, run in turn; all must give the same pixels */
+static void best(double *ns, int n, strip_table t, size_t width, int rows_each, int times)
 {
-    double least = 1e9;
-    for (int i = 0; i < times; i++) {
-        double s = run(l, t, width, n);
-        least = s < least ? s : least;
-    }
-    return least * 1e9 / ((double)n * (double)width * (double)t.count);
+    uint64_t seen = 0;
+    for (int i = 0; i < n; i++)
+        ns[i] = 1e9;
+    for (int turn = 0; turn < times; turn++)
+        for (int i = 0; i < n; i++) {
+            double s = run(loops[i], t, width, rows_each) * 1e9 / ((double)rows_each * (double)width * (double)t.count);
+            ns[i] = s < ns[i] ? s : ns[i];
+            seen = i ? seen : checksum;
+            if (checksum != seen) {
+                printf("bench: %s and %s give different pixels\n", loops[i].name, loops[0].name);
+                exit(1);
+            }
+        }
+}
+
+static void names(int n)
+{
+    printf("%-26s", "");
+    for (int i = 0; i < n; i++)
+        printf("%10s", loops[i].name);
+    printf("%18s\n", "engine to tuned");
+}
+
+static void line(double *ns, int n)
+{
+    for (int i = 0; i < n; i++)
+        printf("%10.2f", ns[i]);
+    printf("%18.2f\n", ns[0] / ns[TUNED]);
 }
 
 int main(int argc, char **argv)
 {
-    double ratio = 0;
+    double ns[LOOPS];
     srand(7);
     for (int r = 0; r < 64; r++)
         for (int c = 0; c < WIDTH; c++)
             rows[r][c] = (uint16_t)(rand() & 4095);
     if (argc == 5) {
-        for (int i = 0; i < 4; i++)
+        for (int i = 0; i < LOOPS; i++)
             if (!strcmp(argv[1], loops[i].name))
                 run(loops[i], make_table((size_t)atoi(argv[2]), atoi(argv[3]), 7), WIDTH, atoi(argv[4]));
         return 0;
     }
-    printf("ns per sample and rectangle, %d columns\n%-24s", WIDTH, "");
-    for (int i = 0; i < 4; i++)
-        printf("%10s", loops[i].name);
-    printf("\n");
-    for (int drops = 0; drops < 2; drops++)
+    printf("ns per sample and rectangle, %d columns, the best of %d scans\n", WIDTH, TIMES);
+    names(TIMED);
+    for (int d = 0; d < 3; d++)
         for (size_t rects = 1; rects <= 16; rects *= 4) {
-            strip_table t = make_table(rects, drops, 7);
-            uint64_t seen[4];
-            double ns[4];
-            printf("%2d rectangles%-11s", (int)rects, drops ? ", drops" : "");
-            for (int i = 0; i < 4; i++) {
-                bool slow = i == 3;
-                run(loops[i], t, WIDTH, 100);
-                seen[i] = checksum;
-                ns[i] = slow ? best(loops[i], t, WIDTH, 20, 2) : best(loops[i], t, WIDTH, 1600 / (int)rects, 15);
-                printf("%10.2f", ns[i]);
-                if (seen[i] != seen[0]) {
-                    printf("\nbench: %s and %s give different pixels\n", loops[i].name, loops[0].name);
-                    return 1;
-                }
-            }
-            printf("\n");
-            ratio = ns[0] / ns[2];
+            printf("%2d rectangles, drops %03d  ", (int)rects, drops[d]);
+            best(ns, TIMED, make_table(rects, drops[d], 7), WIDTH, 800 / (int)rects, TIMES);
+            line(ns, TIMED);
         }
-    printf("\nthe engine, ns per sample and rectangle, by width, rectangles and rectangle\n%-24s%10s%10s%10s\n", "", "3 by 3", "15 by 15", "31 by 31");
-    for (size_t width = 64; width <= WIDTH; width *= 4)
+    best(ns, LOOPS, make_table(4, 0, 7), WIDTH, 20, 2);
+    printf("every sample added afresh (direct), 4 rectangles: %.0f\n", ns[LOOPS - 1]);
+    printf("\nns per sample and rectangle, by width, size of the values and rectangle\n");
+    names(TIMED);
+    for (size_t width = 64; width <= 256; width *= 4)
         for (size_t rects = 1; rects <= 16; rects *= 4) {
-            printf("%4d columns, %2d rects   ", (int)width, (int)rects);
-            for (int half = 1; half <= 15; half = half * 2 + (half == 1 ? 5 : 1)) {
-                strip_table t = make_table(rects, 0, half);
-                printf("%10.2f", best(loops[0], t, width, 1600 / (int)rects, 5));
-            }
-            printf("\n");
+            printf("%4d columns, %2d rects     ", (int)width, (int)rects);
+            best(ns, TIMED, make_table(rects, 0, 7), width, 8000 / (int)rects, TIMES / 2);
+            line(ns, TIMED);
         }
-    printf("\nthe same pixels from all four; engine to tuned, 16 rectangles with drops: %.2f\n", ratio);
+    for (int d = 0; d < 2; d++) {
+        strip_table t = make_table(16, drops[d], 7);
+        for (size_t k = 0; k < t.count; k++)
+            t.rects[k].weight = (int16_t)(t.rects[k].weight * 100);
+        printf("16 of 64 bits, drops %03d  ", drops[d]);
+        best(ns, TIMED, t, WIDTH, 50, TIMES);
+        line(ns, TIMED);
+    }
+    for (int half = 1; half <= 15; half += 14) {
+        printf("1024 columns, 16 of %2d by %2d", 2 * half + 1, 2 * half + 1);
+        best(ns, TIMED, make_table(16, 0, half), WIDTH, 50, TIMES);
+        line(ns, TIMED);
+    }
     return 0;
 }

@@ -1,8 +1,19 @@
 #!/bin/sh
-# The speed of the engine and of the ranked window beside C loops; instruction counts where valgrind is there.
+# The speed of the engine and of the ranked window beside C loops; instruction counts where valgrind is there. With BEFORE=folder the
+# library of that folder (libstrip.a of another commit) is measured in turn with this one, its calls renamed.
 cd "$(dirname "$0")/.." || exit 1
-flags="-O3 -march=x86-64 -std=c11 -Wall -Wextra -Wpedantic -Werror -D_POSIX_C_SOURCE=199309L"
-gcc $flags -Ibuild bench/bench.c build/libstrip.a -o build/bench || exit 1
+flags="-O3 -march=x86-64 -falign-functions=64 -falign-loops=64 -std=c11 -Wall -Wextra -Wpedantic -Werror -D_POSIX_C_SOURCE=199309L"
+loops="engine tuned remainder"
+before=
+if [ -n "$BEFORE" ]; then
+    nm "$BEFORE/libstrip.a" | awk '$2 == "T" { print $3, "old_" $3 }' >build/before.names
+    objcopy --redefine-syms=build/before.names "$BEFORE/libstrip.a" build/libbefore.a || exit 1
+    before="-DBEFORE build/libbefore.a"
+    loops="engine before tuned remainder"
+    gcc -O2 -Wall -Wextra -Ibuild bench/stack.c build/libstrip.a $before -o build/bench-stack-before -lpthread || exit 1
+fi
+gcc $flags -Ibuild bench/bench.c build/libstrip.a $before -o build/bench || exit 1
+gcc -O2 -Wall -Wextra -Ibuild bench/stack.c build/libstrip.a -o build/bench-stack -lpthread || exit 1
 gcc $flags -Ibuild bench/rank.c build/libstrip.a -o build/bench-rank || exit 1
 
 # counts WORD...: the instructions of a program run with these arguments
@@ -11,12 +22,14 @@ counts() {
 }
 
 if command -v valgrind >/dev/null 2>&1; then
-    echo "instructions per sample and rectangle, 1024 columns, 16 rectangles"
-    for loop in engine plain tuned; do
-        for drops in 0 1; do
-            for rows in 40 140; do
-                counts build/bench $loop 16 $drops $rows
-            done | paste -s - | awk -v l=$loop -v d=$drops '{ printf "%-8s%-12s%6.1f\n", l, d ? "with drops" : "no drops", ($2 - $1) / (100 * 1024 * 16) }'
+    echo "instructions per sample and rectangle, 1024 columns, 16, 4 and 1 rectangles"
+    for loop in $loops; do
+        for drops in 000 111 230; do
+            for rects in 16 4 1; do
+                for rows in 40 140; do
+                    counts build/bench $loop $rects $drops $rows
+                done | paste -s - | awk -v k=$rects '{ printf "%.1f\n", ($2 - $1) / (100 * 1024 * k) }'
+            done | paste -s - | awk -v l=$loop -v d=$drops '{ printf "%-10sdrops %s%8.1f%8.1f%8.1f\n", l, d, $1, $2, $3 }'
         done
     done
     echo
@@ -33,5 +46,11 @@ if command -v valgrind >/dev/null 2>&1; then
     echo
 fi
 build/bench || exit 1
+echo
+build/bench-stack || exit 1
+if [ -n "$before" ]; then
+    echo "before:"
+    build/bench-stack-before || exit 1
+fi
 echo
 build/bench-rank
