@@ -1,7 +1,7 @@
 #!/usr/bin/env python3
 """No remainder and no division in a pass over the columns of a row: the place of a kept row is found before it.
 
-passes.py          the lowered form (`rt mir`) of the crates with passes, after the fixtures, each of which must be refused
+passes.py          the lowered form (`rt mir`) of the engines' crates, after the fixtures, each of which must be refused
 passes.py FILE..   only these files of lowered form
 
 A loop of these crates counts as one over columns unless it is named below. Neither in it nor in anything that it calls, however far
@@ -13,7 +13,7 @@ import re
 import subprocess
 import sys
 
-CRATES = ["passes", "arrival", "levels", "histograms", "rank"]
+CRATES = ["arith", "ring", "rule", "passes", "arrival", "scan", "levels", "histograms", "rank"]
 # loops over rectangles: each finds the rows that its edges reach, then runs passes
 OVER_RECTANGLES = {"arrival::rows::values", "arrival::rows::roll_back_first"}
 ROOT = os.path.dirname(os.path.dirname(os.path.abspath(__file__)))

@@ -1,4 +1,4 @@
-// Samples copied, and zeroed.
+// Samples copied and zeroed, and sums zeroed.
 ghost use mathlib.Core.Path.{_≡_};
 ghost use mathlib.Core.List.{_++_};
 ghost use Prim.Native.Nat.{_≤_};
@@ -13,6 +13,18 @@ pub fn copy(to: &mut [u16], row: &[u16], n: usize)
     let mut c = 0;
     while c < n {
         to[c] = row[c];
+        c += 1;
+    }
+}
+
+// Zeros into the first n sums.
+pub fn zero_sums(to: &mut [u32], n: usize)
+    requires { ⌜ n ≤ length (now to) ⌝ }
+    ensures { λ _. ⌜ now (to .exit) ≡ zeroed n (now (to .entry)) ⌝ }
+{
+    let mut c = 0;
+    while c < n {
+        to[c] = 0;
         c += 1;
     }
 }

@@ -9,6 +9,7 @@ mod sign;
 
 pub use copying::copy;
 pub use copying::zero_samples;
+pub use copying::zero_sums;
 pub use floor::floor_shift;
 pub use log::log2_up;
 pub use natural::least;

@@ -1,8 +1,8 @@
 // A line of truncated column sums: 32 zeros, a place for each column of the row, and zeros, 16 of them at least.
 ghost use Prim.Native.Nat.{_≤_};
 ghost use Rattle.arrival.specs.Rectangles.{ZeroPadded, RunningSums, Unpadded};
+use arith::zero_sums;
 use passes::running_sums;
-use passes::zero_line;
 
 // The running sums of a line, in its place.
 pub fn sum_line(line: &mut [u32], width: usize)
@@ -19,5 +19,5 @@ pub fn pad_line(line: &mut [u32], width: usize)
     ensures { λ _. ⌜ ZeroPadded width (now (line .exit)) ⌝ }
 {
     let at = 32 + width;
-    zero_line(&mut line[at..at + 16], 16);
+    zero_sums(&mut line[at..at + 16], 16);
 }

@@ -7,7 +7,6 @@ mod sums;
 mod values;
 
 pub use lines::running_sums;
-pub use lines::zero_line;
 pub use pixels::write_narrow;
 pub use pixels::write_wide;
 pub use sums::roll_back;

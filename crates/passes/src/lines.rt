@@ -3,7 +3,7 @@ ghost use mathlib.Core.Path.{_≡_};
 ghost use mathlib.Core.List.{_++_};
 ghost use Prim.Native.Nat.{_≤_};
 ghost use lib.ListN.{length, drop};
-ghost use Rattle.arith.specs.Tab.{tab, zeroed};
+ghost use Rattle.arith.specs.Tab.{tab};
 ghost use Rattle.passes.specs.Passes.{running};
 use std::num::wrapping_add_u32;
 
@@ -17,18 +17,6 @@ pub fn running_sums(line: &mut [u32], n: usize)
     while c < n {
         s = wrapping_add_u32(s, line[c]);
         line[c] = s;
-        c += 1;
-    }
-}
-
-// Zeros into the first n places of a line.
-pub fn zero_line(line: &mut [u32], n: usize)
-    requires { ⌜ n ≤ length (now line) ⌝ }
-    ensures { λ _. ⌜ now (line .exit) ≡ zeroed n (now (line .entry)) ⌝ }
-{
-    let mut c = 0;
-    while c < n {
-        line[c] = 0;
         c += 1;
     }
 }

@@ -1,32 +1,20 @@
 // Starting and closing a scan.
 ghost use mathlib.Core.Path.{_≡_};
 ghost use mathlib.Core.List.{List, []};
-ghost use Prim.Native.Nat.{ℕ, _≤_};
+ghost use Prim.Native.Nat.{ℕ};
 ghost use lib.ListN.{length};
-ghost use Rattle.arith.specs.Tab.{zeroed};
 ghost use Rattle.layout.specs.Answers.{said, verdict, left};
 ghost use Rattle.scan.specs.Calls.{world, fresh, startAsks, startOf, closeOf};
 use crate::Scan;
 use crate::Started;
 use crate::state::state_good;
 use arith::zero_samples;
+use arith::zero_sums;
 use arrival::stores_good;
 use layout::Table;
 use layout::Verdict;
 use limits::accepted;
 use rule::width_good;
-
-// Zeros into the first n sums.
-fn zero_sums(to: &mut [u32], n: usize)
-    requires { ⌜ n ≤ length (now to) ⌝ }
-    ensures { λ _. ⌜ now (to .exit) ≡ zeroed n (now (to .entry)) ⌝ }
-{
-    let mut c = 0;
-    while c < n {
-        to[c] = 0;
-        c += 1;
-    }
-}
 
 // A scan with no row in it.
 fn begun(table: Table, width: usize) -> Scan

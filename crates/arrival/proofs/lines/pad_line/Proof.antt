@@ -54,23 +54,23 @@ module _ (width : ℕ) (line : List ℕ) (loose : Unpadded width line) (ys : Lis
 add-at : tie.Need-add-at
 add-at c = search needs
 
-add-zero-line : tie.Need-add-zero-line
-add-zero-line c = search needs
+add-zero-sums : tie.Need-add-zero-sums
+add-zero-sums c = search needs
 
-mul-zero-line : tie.Need-mul-zero-line
-mul-zero-line c = search needs
+mul-zero-sums : tie.Need-mul-zero-sums
+mul-zero-sums c = search needs
 
-sub-zero-line : tie.Need-sub-zero-line
-sub-zero-line c = search needs
+sub-zero-sums : tie.Need-sub-zero-sums
+sub-zero-sums c = search needs
 
-part-zero-line-start : tie.Need-part-zero-line-start
-part-zero-line-start c = search needs
+part-zero-sums-start : tie.Need-part-zero-sums-start
+part-zero-sums-start c = search needs
 
-part-zero-line-end : tie.Need-part-zero-line-end
-part-zero-line-end c = search needs
+part-zero-sums-end : tie.Need-part-zero-sums-end
+part-zero-sums-end c = search needs
 
-zero-line-requires : tie.Need-zero-line-requires
-zero-line-requires c κs = search needs
+zero-sums-requires : tie.Need-zero-sums-requires
+zero-sums-requires c κs = search needs
 
 same-length : tie.Need-same-length
 same-length c = search needs
@@ -78,18 +78,18 @@ same-length c = search needs
 returns : tie.Need-returns
 returns c =
     let s = c .before .before .before .before .before in
-    padded (s .args .width) (now (s .args .line)) (s .pre .0) (c .before .before .zero-line .last .0) (c .before .before .zero-line .ensures)
+    padded (s .args .width) (now (s .args .line)) (s .pre .0) (c .before .before .zero-sums .last .0) (c .before .before .zero-sums .ensures)
 
 pub pad-line-spec : {M : Type 1} → statement M
 pad-line-spec =
     tie.close
     (tie.spec
     add-at
-    add-zero-line
-    mul-zero-line
-    sub-zero-line
-    part-zero-line-start
-    part-zero-line-end
-    zero-line-requires
+    add-zero-sums
+    mul-zero-sums
+    sub-zero-sums
+    part-zero-sums-start
+    part-zero-sums-end
+    zero-sums-requires
     same-length
     returns)

@@ -1,27 +1,27 @@
--- `passes::zero_line` writes zeros into the first n places: a pass over them.
+-- `arith::zero_sums` writes zeros into the first n sums: a pass over them.
 -- Assumes nothing.
 use denote.Ref.{now}
 use Prim.Native.Nat.{_-_}
 use mathlib.Core.Path.{refl}
 use borrow.Author.Needs.{needs}
 use Rattle.arith.proofs.Passes.{Pass, none-done, one-more, all-done}
-use Rattle.passes.proofs.lines.zero_line.Statement.{statement}
-use Rattle.passes.proofs.lines.zero_line.Tie as tie
+use Rattle.arith.proofs.copying.zero_sums.Statement.{statement}
+use Rattle.arith.proofs.copying.zero_sums.Tie as tie
 
 abbrev Inv-loop : tie.InvT-loop
-Inv-loop line₀ n c₀ line c = Pass n (λ k. 0) line₀ c line
+Inv-loop to₀ n c₀ to c = Pass n (λ k. 0) to₀ c to
 
 abbrev μ-loop : tie.MeasureT-loop
-μ-loop line₀ n c₀ line c = n - c
+μ-loop to₀ n c₀ to c = n - c
 
 loop-holds : tie.Need-loop-holds Inv-loop μ-loop
-loop-holds c = none-done _ _ (now (c .args .line)) (c .pre)
+loop-holds c = none-done _ _ (now (c .args .to)) (c .pre)
 
-mul-line : tie.Need-mul-line Inv-loop μ-loop
-mul-line c = search needs
+mul-to : tie.Need-mul-to Inv-loop μ-loop
+mul-to c = search needs
 
-slice-write-line : tie.Need-slice-write-line Inv-loop μ-loop
-slice-write-line c = search needs
+slice-write-to : tie.Need-slice-write-to Inv-loop μ-loop
+slice-write-to c = search needs
 
 add-c : tie.Need-add-c Inv-loop μ-loop
 add-c c = search needs
@@ -38,15 +38,15 @@ same-length c = search needs
 returns : tie.Need-returns Inv-loop μ-loop
 returns c = all-done (c .before .loop .inv) (c .loop-test .left)
 
-pub zero-line-spec : {M : Type 1} → statement M
-zero-line-spec =
+pub zero-sums-spec : {M : Type 1} → statement M
+zero-sums-spec =
     tie.close
     (tie.spec
     Inv-loop
     μ-loop
     loop-holds
-    mul-line
-    slice-write-line
+    mul-to
+    slice-write-to
     add-c
     loop-less
     loop-again
