@@ -1,7 +1,7 @@
 -- Laws of tests.
 -- Assumes nothing.
 use mathlib.Core.Path.{_≡_, refl, sym, _∙_}
-use mathlib.Core.Bool.{Bool, true, false, not}
+use mathlib.Core.Bool.{Bool, true, false, not, _||_}
 use lib.Dec.{T}
 use borrow.Author.Tests.{not-true, not-false}
 
@@ -22,3 +22,7 @@ yes e h = sym e ∙ not-false _ h
 
 pub no : {g s : Bool} → g ≡ s → not g ≡ true → s ≡ false
 no e h = sym e ∙ not-true _ h
+
+pub or-true : (b : Bool) → (b || true) ≡ true
+or-true true = refl
+or-true false = refl

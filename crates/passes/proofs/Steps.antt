@@ -5,7 +5,6 @@ use native.Mathlib.Nat.{div-add-mod, div-le-self, lt-of-le-of-lt}
 use native.Mathlib.Omega.{arith}
 use mathlib.Core.Path.{_≡_}
 use mathlib.Core.Bool.{_&&_}
-use lib.Bits.{bitOr, or-lt, or-add-and, and-le-l, and-le-r}
 use lib.Dec.{T, leb, ltb, le→leb, leb→le, lt→ltb, ltb→lt}
 use mir.Val.{Fits}
 use mir.Syntax.{w16, w32}
@@ -34,20 +33,6 @@ module _
       let x = leb→le off stored (k .0) in
       let y = leb→le (stored - off + on) bound (k .1) in
       yes-and (ltb less boundEnd) (ltb left boundEnd) (lt→ltb less boundEnd (omega arith)) (lt→ltb left boundEnd (omega arith)))
-
--- an OR is below 2^17 exactly when both numbers are
-pub or-below : (a b : ℕ) → ltb (bitOr a b) boundEnd ≡ (ltb a boundEnd && ltb b boundEnd)
-or-below a b =
-    let e = or-add-and a b in
-    let l = and-le-l a b in
-    let r = and-le-r a b in
-    bool-eq (ltb (bitOr a b) boundEnd) (ltb a boundEnd && ltb b boundEnd)
-    (λ t.
-    let h = ltb→lt (bitOr a b) boundEnd t in
-    yes-and (ltb a boundEnd) (ltb b boundEnd) (lt→ltb a boundEnd (omega arith)) (lt→ltb b boundEnd (omega arith)))
-    (λ t.
-    let h = and-yes (ltb a boundEnd) (ltb b boundEnd) t in
-    lt→ltb (bitOr a b) boundEnd (or-lt 17 a b (ltb→lt a boundEnd (h .0)) (ltb→lt b boundEnd (h .1))))
 
 -- both steps as they are taken
 pub step-sum : (stored off on less s : ℕ) → (less + off) % 4294967296 ≡ stored → s ≡ (less + on) % 4294967296 → s ≡ stepped stored off on

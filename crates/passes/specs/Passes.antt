@@ -138,3 +138,16 @@ pub record WriteWideFits (n shift out : ℕ) (acc : List ℕ) : Type 0 where
   pub out-long : n ≤ out
   pub acc-long : n ≤ length acc
   pub values : (c : ℕ) → c < n → RoundFits (getD acc c 0) shift
+
+pub record NarrowWords (n shift word acc : ℕ) : Type 0 where
+  pub acc-long : n ≤ acc
+  pub shift-most : shift ≤ 31
+  pub word-least : 8 ≤ word
+  pub word-most : word ≤ 32
+
+pub record WideWords (n shift word : ℕ) (acc : List ℕ) : Type 0 where
+  pub acc-long : n ≤ length acc
+  pub shift-most : shift ≤ 31
+  pub word-least : 8 ≤ word
+  pub word-most : word ≤ 32
+  pub value-most : (c : ℕ) → c < n → getD acc c 0 ≤ valueMost

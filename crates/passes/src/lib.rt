@@ -1,10 +1,11 @@
 // Inner: the loops over the columns of a row, on plain slices and numbers; none knows a table. Column sums are updated and asked, or
 // rolled back; a line is made its running sums; differences of two lines are weighed into values, of 32 bits modulo 2^32 or of 64; and
-// the pixels of a row are written.
+// the pixels of a row are written, or asked whether they fit their words.
 mod lines;
 mod pixels;
 mod sums;
 mod values;
+mod words;
 
 pub use lines::running_sums;
 pub use pixels::write_narrow;
@@ -13,3 +14,5 @@ pub use sums::roll_back;
 pub use sums::update_line;
 pub use values::accumulate;
 pub use values::weigh;
+pub use words::fit_narrow;
+pub use words::fit_wide;

@@ -1,7 +1,8 @@
 -- `passes::move_sum` takes both steps with wrapping: what is left after the one and to the bound after the other are both below 2^17,
 -- and so is their OR (`or-below`), exactly when the sum may move (`step-good`).
 -- Assumes nothing.
-use Rattle.passes.proofs.Steps.{step-good, step-sum, or-below}
+use Rattle.arith.proofs.Alls.{or-below}
+use Rattle.passes.proofs.Steps.{step-good, step-sum}
 use mathlib.Core.Path.{_∙_}
 use Prim.Native.Nat.{_<_}
 use borrow.Author.Needs.{needs}
@@ -30,7 +31,7 @@ returns c =
     let good =
     step-good (a .stored) (a .off) (a .on) (less .result) (sum .result) (left .result) (a .bound) (f .stored .fits) (f .off .fits) (f .on .fits)
     l m (s .pre) (less .ensures) (sum .ensures) (left .ensures) in (
-      or-below (less .result) (left .result) ∙ good,
+      or-below 17 (less .result) (left .result) ∙ good,
       step-sum (a .stored) (a .off) (a .on) (less .result) (sum .result) (less .ensures) (sum .ensures),
     )
 

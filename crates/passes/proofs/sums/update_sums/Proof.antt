@@ -4,7 +4,7 @@
 use Prim.Native.Nat.{ℕ, _+_, _-_, _/_, _^_}
 use native.Mathlib.Numerals.{add-one}
 use native.Mathlib.Omega.{arith}
-use mathlib.Core.Path.{_≡_, refl, sym, ap, ap₂, subst, _∙_}
+use mathlib.Core.Path.{_≡_, refl, ap, subst, _∙_}
 use mathlib.Core.Bool.{_&&_}
 use mathlib.Core.List.{List}
 use lib.Dec.{T, ltb}
@@ -12,10 +12,10 @@ use lib.ListN.{length, length-set}
 use mir.Facts.{and-yes}
 use borrow.Author.Needs.{needs}
 use Rattle.arith.specs.All.{all}
-use Rattle.arith.proofs.Alls.{all-suc}
+use Rattle.arith.proofs.Alls.{all-suc, or-next}
 use Rattle.arith.proofs.Passes.{Pass, none-done, one-more, all-done, next-place}
 use Rattle.passes.specs.Passes.{boundEnd, movableAt, steppedAt, newAt}
-use Rattle.passes.proofs.Steps.{or-below, step-exact}
+use Rattle.passes.proofs.Steps.{step-exact}
 use Rattle.passes.proofs.sums.update_sums.Statement.{statement}
 use Rattle.passes.proofs.sums.update_sums.Tie as tie
 
@@ -112,7 +112,7 @@ loop-again c =
           let b = and-yes (all k good) (good k) (subst T e p) in
           one-more (h .written (b .0)) t (ap (λ x. x / 2 ^ a .q2) (sum ∙ step-exact _ _ _ (a .bound) (s .pre .bound-most) (b .1)));
       line-long = length-set (l .loop .line) k _ ∙ h .line-long;
-      none-past = or-below (l .loop .past) (m .result .past) ∙ ap₂ _&&_ (h .none-past) (rw at at (m .ensures .0)) ∙ sym e;
+      none-past = or-next 17 (l .loop .past) (m .result .past) k good (h .none-past) (rw at at (m .ensures .0));
     }
 
 same-length : tie.Need-same-length Inv-loop μ-loop
