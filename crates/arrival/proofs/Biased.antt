@@ -4,7 +4,7 @@ use Prim.Native.Nat.{ℕ, _+_, _-_, _*_, _^_, _≤_, _<_, zero-le}
 use native.Mathlib.Omega.{arith}
 use native.Mathlib.Numerals.{add-one}
 use native.Mathlib.Nat.{mul-le-mul}
-use mathlib.Core.Path.{_≡_, refl, sym, ap, _∙_}
+use mathlib.Core.Path.{_≡_, refl, ap, _∙_}
 use mathlib.Core.Bool.{true}
 use mathlib.Core.List.{List, _++_}
 use lib.Dec.{T}
@@ -20,12 +20,11 @@ use Rattle.arith.specs.Tab.{tab}
 use Rattle.arith.specs.Twos.{fitsSigned}
 use Rattle.arith.proofs.Ints.{diff-add, diff-eq, diff-parts, diff-scale, diff-shift, diff-sub, sumℤ-suc}
 use Rattle.arith.proofs.Passes.{pass-done, pass-length}
-use Rattle.arith.proofs.Words.{fits-mag, fits-widen}
+use Rattle.arith.proofs.Words.{fits-mag}
 use Rattle.layout.specs.Contents.{rect}
 use Rattle.limits.specs.Limits.{acceptable}
 use Rattle.limits.proofs.Granted.{granted}
-use Rattle.rule.proofs.Fitting.{value-fits}
-use Rattle.passes.specs.Passes.{bias, rounded, valueMost, partMost, scaledEnd, RoundFits}
+use Rattle.passes.specs.Passes.{bias, rounded, valueMost, partMost, scaledEnd}
 use Rattle.arrival.specs.Arrivals.{Arrival, sumGood, scaledAt, pixelAt}
 use Rattle.arrival.specs.Rectangles.{withPart, Summed, ValuesFit}
 use Rattle.arrival.proofs.Values.{scaled-most}
@@ -121,17 +120,7 @@ pub wide-pixel : (v : Arrival) {acc : List ℕ} → Summed v (v .table .count) a
 unfolding pixelAt
 wide-pixel v {acc} w c h = ap (λ z. floorDiv z (v .table .t)) (diff-eq (diff-sub (getD acc c 0) bias) (w .value c h) refl)
 
--- and it fits its word
-pub wide-word : (v : Arrival) {acc : List ℕ} → acceptable (v .table) ≡ true → ((k : ℕ) → k < v .table .count → T (all (v .width) (sumGood v k)))
-    → Summed v (v .table .count) acc → (c : ℕ) → c < v .width → RoundFits (getD acc c 0) (v .table .t)
-unfolding pixelAt
-wide-word v a good w c h =
-    let g = granted (v .table) a in
-    let q : v .table .q1 ≤ v .table .b = let l = g .q1-less in omega arith in
-    let f = g .few in
-    record {
-      value-most = let l = w .high c h in omega arith;
-      in-word =
-          rw (wide-pixel v w c h)
-          (fits-widen (v .table .w) 32 _ (g .word-most) (value-fits (v .table) a (λ k. scaledAt v k c) (λ k l. scaled-most v k c q (good k l))));
-    }
+-- and the values have room in their words
+pub wide-most : (v : Arrival) {acc : List ℕ} → acceptable (v .table) ≡ true → Summed v (v .table .count) acc → (c : ℕ) → c < v .width
+    → getD acc c 0 ≤ valueMost
+wide-most v a w c h = let f = granted (v .table) a .few in let l = w .high c h in omega arith

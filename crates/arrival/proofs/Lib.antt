@@ -9,6 +9,7 @@ pub mod Written
 pub mod Biased
 pub mod Starts
 pub mod Pixels
+pub mod Takes
 pub mod Theorems
 pub mod Shares
 pub mod Delays

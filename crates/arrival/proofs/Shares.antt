@@ -1,37 +1,34 @@
 -- Values of 32 bits: the shares of all rectangles, modulo 2^32, are the value, and its pixel is that of the rule.
 -- Assumes nothing.
-use Prim.Native.Nat.{ℕ, zero, suc, _+_, _-_, _*_, _/_, _%_, _^_, _≤_, _<_}
-use native.Mathlib.Nat.{mod-add-mod, div-one, le-trans}
+use Prim.Native.Nat.{ℕ, suc, _+_, _-_, _*_, _/_, _%_, _^_, _≤_, _<_}
+use native.Mathlib.Nat.{mod-add-mod, div-one}
 use native.Mathlib.Omega.{arith}
 use native.Mathlib.Numerals.{add-one}
 use mathlib.Core.Path.{_≡_, refl, sym, ap, subst, _∙_}
-use mathlib.Core.Bool.{Bool, true, false, cond, not, _&&_}
+use mathlib.Core.Bool.{Bool, true, false, cond}
 use mathlib.Core.List.{List, _++_}
-use lib.Dec.{T, eqb, leb, eqb→eq}
-use lib.IntN.{ℤ, pos, negsuc, _*ℤ_}
+use lib.Dec.{T, eqb, eqb→eq}
+use lib.IntN.{ℤ, pos, negsuc}
 use lib.ListN.{length, getD, drop, replicate, length-replicate, getD-replicate}
-use mir.Facts.{and-yes}
 use Rattle.arith.specs.All.{all}
-use Rattle.arith.specs.Diff.{Diff}
 use Rattle.arith.specs.Floor.{floorDiv}
 use Rattle.arith.specs.Part.{posPart, negPart}
-use Rattle.arith.specs.Sum.{sum, sumℤ}
+use Rattle.arith.specs.Sum.{sum}
 use Rattle.arith.specs.Tab.{tab}
-use Rattle.arith.specs.Twos.{signed, fitsSigned}
+use Rattle.arith.specs.Twos.{fitsSigned}
 use Rattle.arith.proofs.Ints.{diff-parts, diff-scale, diff-sum}
 use Rattle.arith.proofs.Passes.{pass-done, pass-length}
-use Rattle.arith.proofs.Residues.{same-rest, rest-products, signed-rest}
+use Rattle.arith.proofs.Residues.{rest-products, signed-rest}
 use Rattle.arith.proofs.Sums.{sum-add, sum-cong, sum-scale, sum-suc}
-use Rattle.layout.specs.declared.Rect.{Rect}
 use Rattle.layout.specs.declared.Table.{Table}
-use Rattle.layout.specs.Contents.{contents, rect}
-use Rattle.layout.specs.Measure.{rowsOf, colsOf}
-use Rattle.limits.specs.Limits.{bitsGood, dropsGood, wordGood, valueGood, acceptable, fitting}
+use Rattle.layout.specs.Contents.{rect}
+use Rattle.layout.specs.Measure.{colsOf}
+use Rattle.limits.specs.Limits.{acceptable}
 use Rattle.limits.proofs.Granted.{granted}
 use Rattle.passes.specs.Passes.{running, roundedWord}
-use Rattle.rule.proofs.Fitting.{extremes-fit}
+use Rattle.rule.proofs.Fitting.{areas-fit}
 use Rattle.arrival.specs.Arrivals.{Arrival, sumGood, windowAt, scaledAt, valueAt, pixelAt}
-use Rattle.arrival.specs.Rectangles.{lineOf, place, windowOver, changeOver, shareOver, factorOf, scale, withShare, shares, Weighed, unshifted, narrowTable}
+use Rattle.arrival.specs.Rectangles.{lineOf, place, shareOver, factorOf, scale, withShare, shares, Weighed, narrowTable}
 use Rattle.arrival.proofs.Places.{reach, within, line-dark, window-at}
 use Rattle.arrival.proofs.Values.{scaled-most}
 use Rattle.arrival.proofs.Windows.{summed}
@@ -138,18 +135,11 @@ module _ (v : Arrival) (a : acceptable (v .table) ≡ true) where
   -- and every value of a narrow table has 32 bits
   value-fits : narrowTable (v .table) ≡ true → ((k : ℕ) → k < v .table .count → T (all (v .width) (sumGood v k))) → (c : ℕ)
       → T (fitsSigned 32 (valueAt v c))
-  unfolding narrowTable fitting floorDiv
+  unfolding narrowTable floorDiv
   value-fits e good c =
-      let t = v .table in
-      let u = unshifted t in
-      let s = subst T (sym e) tt in
-      let b = and-yes (bitsGood (t .b)) _ s in
-      let d = and-yes (dropsGood (t .b) (t .q1) (t .q2) (t .q3)) _ (b .1) in
-      let w = and-yes (wordGood 0 32) _ (d .1) in
-      let f = and-yes (leb (t .count) 16) (valueGood (contents u)) (w .1) in
-      let l = granted t a .q1-less in
+      let l = granted (v .table) a .q1-less in
       subst (λ z. T (fitsSigned 32 z)) (no-shift (valueAt v c))
-      (extremes-fit u (f .1) (λ k. scaledAt v k c) (λ k h. scaled-most v k c (omega arith) (good k h)))
+      (areas-fit (v .table) 0 32 (subst T (sym e) tt) (λ k. scaledAt v k c) (λ k h. scaled-most v k c (omega arith) (good k h)))
     where
       no-shift : (z : ℤ) → floorDiv z 0 ≡ z
       no-shift (pos n) = ap pos (div-one n)

@@ -3,7 +3,7 @@
 use Prim.Native.Nat.{ℕ, _-_, _*_, _/_, _^_, _≤_, _<_}
 use native.Mathlib.Nat.{le-refl, le-trans, mul-le-mul, div-le-self}
 use native.Mathlib.Omega.{arith}
-use mathlib.Core.Path.{_≡_, sym, subst}
+use mathlib.Core.Path.{_≡_, sym, subst, _∙_}
 use mathlib.Core.Bool.{true}
 use lib.Dec.{T}
 use lib.IntN.{pos}
@@ -13,6 +13,7 @@ use Rattle.arith.specs.Part.{posPart, negPart}
 use Rattle.arith.proofs.Alls.{all-at}
 use Rattle.arith.proofs.Sums.{sum-bound}
 use Rattle.arith.proofs.Ints.{diff-parts, diff-scale, diff-size, diff-sum}
+use Rattle.arith.specs.Twos.{fitsSigned}
 use Rattle.arith.proofs.Words.{mag-fits}
 use Rattle.arrival.proofs.Biased.{parts-le}
 use Rattle.layout.specs.Contents.{rect}
@@ -21,12 +22,12 @@ use Rattle.limits.specs.Limits.{acceptable}
 use Rattle.limits.proofs.Granted.{granted}
 use Rattle.rule.specs.Sums.{covered}
 use Rattle.layout.proofs.Questions.{AllYes}
-use Rattle.rule.proofs.Fitting.{value-fits}
-use Rattle.arrival.specs.Arrivals.{Arrival, lessSum, newSum, sumGood, arrivalAsks, lineAt, windowAt, scaledAt, valueAt, pixelAt}
+use Rattle.arrival.specs.Arrivals.{Arrival, lessSum, newSum, sumGood, arrivalAsks, lineAt, windowAt, scaledAt, valueAt, pixelAt, dueGood}
 use Rattle.passes.specs.Passes.{partMost}
 use Rattle.arrival.specs.Words.{WordsFit}
 use Rattle.arrival.specs.Rectangles.{sumLimit}
 use Rattle.arrival.proofs.Carries.{good-at, most-le}
+use Rattle.arrival.proofs.Pixels.{due-by}
 use Rattle.arrival.proofs.Values.{line-most, scaled-most}
 
 -- an arrival of a table within the limits that passes question 19, whatever the stores held
@@ -34,6 +35,10 @@ module _ (v : Arrival) (a : acceptable (v .table) ≡ true) (y : AllYes (arrival
   good : (k : ℕ) → k < v .table .count → T (all (v .width) (sumGood v k))
   unfolding arrivalAsks
   good k h = all-at (v .table .count) (λ k. all (v .width) (sumGood v k)) (subst T (sym (y .0)) tt) k h
+
+  last : dueGood v ≡ true
+  unfolding arrivalAsks
+  last = y .1 .0
 
   -- a scaled sum is at most 31·31·4,095, and so small is its part of a value
   scaled-small : (k c : ℕ) → k < v .table .count → scaledAt v k c ≤ 3935295
@@ -51,7 +56,7 @@ module _ (v : Arrival) (a : acceptable (v .table) ≡ true) (y : AllYes (arrival
 
   -- S6, altered stores included
   pub words-fit : (k c : ℕ) → k < v .table .count → c < v .width → WordsFit v k c
-  unfolding windowAt pixelAt newSum
+  unfolding windowAt newSum
   words-fit k c h i =
       let t = v .table in
       let d = rect t k in
@@ -76,7 +81,7 @@ module _ (v : Arrival) (a : acceptable (v .table) ≡ true) (y : AllYes (arrival
         window = omega arith;
         scaled = omega arith;
         value = mag-fits 64 (valueAt v c) (diff-size (2 ^ 63) s (omega arith) (omega arith));
-        pixel = value-fits t a (λ k. scaledAt v k c) (λ k l. scaled-most v k c q (good k l));
+        pixel = λ due. all-at (v .width) (λ c. fitsSigned (t .w) (pixelAt v c)) (subst T (sym (sym (due-by v due) ∙ last)) tt) c i;
       }
     where
       less-le : (v : Arrival) (k c : ℕ) → lessSum v k c ≤ newSum v k c

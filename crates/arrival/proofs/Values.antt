@@ -3,31 +3,19 @@
 use Prim.Native.Nat.{ℕ, _+_, _-_, _*_, _/_, _^_, _≤_, _<_, zero-le}
 use native.Mathlib.Nat.{le-trans, mul-le-mul-left, mul-le-mul-right, div-mul-le-self}
 use native.Mathlib.Omega.{arith}
-use mathlib.Core.Path.{_≡_, refl, sym, ap, subst}
+use mathlib.Core.Path.{_≡_, subst}
 use mathlib.Core.Bool.{Bool, true, false, cond}
-use mathlib.Core.List.{List}
 use lib.Dec.{T, ltb, ltb→lt}
 use lib.IntN.{ℤ, pos, negsuc}
-use lib.ListN.{getD, replicate, length-replicate, getD-replicate}
 use lib.Pow.{pow-add, shr-mono, ones-split}
-use Rattle.arith.specs.Sum.{sumℤ}
 use Rattle.arith.specs.All.{all}
-use Rattle.arith.specs.Floor.{floorDiv}
-use Rattle.arith.specs.Twos.{fitsSigned}
 use Rattle.arith.proofs.Sums.{sum-bound}
-use Rattle.arith.proofs.Ints.{diff-sub, diff-eq}
-use Rattle.arith.proofs.Words.{fits-widen}
 use Rattle.layout.specs.declared.Rect.{Rect}
 use Rattle.layout.specs.declared.Table.{Table}
 use Rattle.layout.specs.Contents.{rect}
 use Rattle.layout.specs.Measure.{rowsOf, colsOf}
-use Rattle.limits.specs.Limits.{acceptable}
-use Rattle.limits.proofs.Granted.{granted}
 use Rattle.rule.specs.Sums.{covered}
-use Rattle.rule.proofs.Fitting.{value-fits}
-use Rattle.arrival.specs.Arrivals.{Arrival, newSum, sumMost, sumGood, lineAt, windowAt, scaledAt, pixelAt}
-use Rattle.passes.specs.Passes.{bias, rounded}
-use Rattle.arrival.specs.Rectangles.{Accumulated}
+use Rattle.arrival.specs.Arrivals.{Arrival, newSum, sumMost, sumGood, lineAt, windowAt, scaledAt}
 use Rattle.arrival.proofs.Carries.{good-at}
 
 -- n quotients by q, their sum truncated by r, scaled back

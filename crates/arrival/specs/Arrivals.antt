@@ -2,7 +2,7 @@
 -- Assumes nothing.
 use Prim.Native.Nat.{ℕ, _+_, _-_, _*_, _/_, _%_, _^_, _≤_}
 use mathlib.Core.Path.{_≡_}
-use mathlib.Core.Bool.{Bool, true, cond, _&&_}
+use mathlib.Core.Bool.{Bool, true, cond, _&&_, _||_}
 use mathlib.Core.List.{List, [], _∷_, _++_}
 use lib.Dec.{leb, ltb}
 use lib.ListN.{length, getD, drop}
@@ -11,6 +11,7 @@ use Rattle.arith.specs.Sum.{sum, sumℤ}
 use Rattle.arith.specs.All.{all}
 use Rattle.arith.specs.Tab.{tab, grid, paste}
 use Rattle.arith.specs.Floor.{floorDiv}
+use Rattle.arith.specs.Twos.{fitsSigned}
 use Rattle.layout.specs.declared.Rect.{Rect}
 use Rattle.layout.specs.declared.Table.{Table}
 use Rattle.layout.specs.declared.Verdict.{Verdict}
@@ -69,10 +70,6 @@ sumMost t d = rowsOf d * (2 ^ (t .b - t .q1) - 1)
 unfoldable pub sumGood : Arrival → (k c : ℕ) → Bool
 sumGood v k c = leb (leaving v k c) (stored v k c) && leb (newSum v k c) (sumMost (v .table) (rect (v .table) k))
 
--- question 19, place the lowest rectangle
-unfoldable pub arrivalAsks : Arrival → List Question
-arrivalAsks v = asksEach 19 (v .table .count) (λ k. all (v .width) (sumGood v k)) ∷ []
-
 -- question 13: the sample store holds 32·L numbers, and the sum store a number for each rectangle and column
 unfoldable pub storesGood : (l count samples sums : ℕ) → Bool
 storesGood l count samples sums = leb (32 * l) samples && leb (count * l) sums
@@ -97,6 +94,17 @@ valueAt v c = sumℤ (v .table .count) (λ k. rect (v .table) k .weight *ℤ pos
 
 unfoldable pub pixelAt : Arrival → (c : ℕ) → ℤ
 pixelAt v c = floorDiv (valueAt v c) (v .table .t)
+
+-- a row that is due has only pixels that fit the pixel word
+unfoldable pub dueGood : Arrival → Bool
+dueGood v = ltb (v .number) (delayOf (v .table)) || all (v .width) (λ c. fitsSigned (v .table .w) (pixelAt v c))
+
+-- question 19: of the sums, place the lowest rectangle; last of the row that is due, place the number of rectangles
+unfoldable pub arrivalAsks : Arrival → List Question
+arrivalAsks v =
+    asksEach 19 (v .table .count) (λ k. all (v .width) (sumGood v k))
+    ∷ record { number = 19; place = v .table .count; holds = dueGood v }
+    ∷ []
 
 -- ---- what an accepted arrival leaves
 

@@ -2,7 +2,7 @@
 -- Assumes nothing.
 use Prim.Native.Nat.{ℕ, suc, _+_, _-_, _*_, _/_, _%_, _^_, _≤_, _<_}
 use mathlib.Core.Path.{_≡_}
-use mathlib.Core.Bool.{Bool, true, false, cond}
+use mathlib.Core.Bool.{Bool, true, false, cond, _||_}
 use mathlib.Core.List.{List, _++_}
 use lib.Dec.{T, eqb, ltb}
 use lib.IntN.{ℤ, pos, _+ℤ_, _*ℤ_}
@@ -19,10 +19,14 @@ use Rattle.layout.specs.declared.Table.{Table}
 use Rattle.layout.specs.Contents.{rect}
 use Rattle.layout.specs.Measure.{colsOf, delayOf}
 use Rattle.arith.specs.Twos.{fitsSigned}
-use Rattle.limits.specs.Limits.{acceptable, fitting, rectGood}
+use Rattle.layout.specs.declared.Verdict.the-variants.{Accepted, Refused}
+use Rattle.layout.specs.Answers.{firstNo}
+use Rattle.limits.specs.Limits.{acceptable, rectGood}
+use Rattle.limits.specs.Slots.{areasFit}
 use Rattle.ring.specs.Ring.{RingFits}
-use Rattle.passes.specs.Passes.{boundMost, stepped, running, plus, roundedWord, rounded, bias, valueMost, partMost, scaledEnd, RoundFits}
-use Rattle.arrival.specs.Arrivals.{Arrival, leaving, entering, stored, sumGood, lineAt, scaledAt, sumsAfter, outputAfter, Fits}
+use Rattle.passes.specs.Passes.{boundMost, stepped, running, plus, roundedWord, rounded, bias, valueMost, partMost, scaledEnd, WideWords}
+use Rattle.arrival.specs.Arrivals.{Arrival, leaving, entering, stored, sumGood, lineAt, scaledAt}
+use Rattle.arrival.specs.Arrivals.{arrivalAsks, sumsAfter, outputAfter, Leaves, leaves, Fits}
 
 -- 31 · (2^12 - 1), which no column sum of a table within the limits passes
 abbrev pub sumLimit : ℕ
@@ -81,12 +85,9 @@ pub record Weighed (v : Arrival) (k : ℕ) (acc : List ℕ) : Type 0 where
   pub long : v .width + 16 ≤ length acc
   pub value : (i : ℕ) → i < v .width + 16 → getD acc i 0 ≡ shares v k i % 4294967296
 
--- every value of the table has 32 bits: question 10 with no shift and a word of 32 bits
-abbrev pub unshifted : Table → Table
-unshifted t = record { b = t .b; q1 = t .q1; q2 = t .q2; q3 = t .q3; t = 0; w = 32; count = t .count; rects = t .rects }
-
+-- on any stores whose sums pass question 19, every value of the table has 32 bits
 unfoldable pub narrowTable : Table → Bool
-narrowTable t = fitting (unshifted t)
+narrowTable t = areasFit t 0 32
 
 -- ---- values of 64 bits, each above its bias
 
@@ -106,15 +107,22 @@ pub record Summed (v : Arrival) (k : ℕ) (acc : List ℕ) : Type 0 where
 
 -- ---- either
 
+-- on any stores whose sums pass question 19, every pixel fits its word
+unfoldable pub sureTable : Table → Bool
+sureTable t = areasFit t (t .t) (t .w)
+
 -- one of two accumulators is used: values of 32 bits for a narrow table, else of 64
 pub record Accumulated (v : Arrival) (k : ℕ) (narrow : Bool) (acc wide : List ℕ) : Type 0 where
   pub words : narrow ≡ true → Weighed v k acc
   pub longs : narrow ≡ false → Summed v k wide
 
--- the pixel of column c by its accumulator, whose running sums are the values where q3 is 0
+-- the value at place i of an accumulator of 32 bits, whose running sums are the values where q3 is 0
+abbrev pub valueWord : (q3 : ℕ) → (acc : List ℕ) → (i : ℕ) → ℕ
+valueWord q3 acc i = cond (eqb q3 0) (running acc i) (getD acc i 0)
+
+-- the pixel of column c by its accumulator
 abbrev pub pixelOf : (narrow : Bool) → (q3 shift : ℕ) → (acc wide : List ℕ) → (c : ℕ) → ℤ
-pixelOf narrow q3 shift acc wide c =
-    cond narrow (roundedWord (cond (eqb q3 0) (running acc (16 + c)) (getD acc (16 + c) 0)) shift) (rounded (getD wide c 0) shift)
+pixelOf narrow q3 shift acc wide c = cond narrow (roundedWord (valueWord q3 acc (16 + c)) shift) (rounded (getD wide c 0) shift)
 
 -- ---- what each step asks
 
@@ -180,19 +188,31 @@ pub record RectangleFits (t : Table) (k width : ℕ) (narrow : Bool) (acc wide l
   pub words : narrow ≡ true → width + 16 ≤ length acc
   pub longs : narrow ≡ false → ValuesFit width wide
 
--- `write_pixels`
-pub record PixelsFit (narrow : Bool) (width shift out acc : ℕ) (wide : List ℕ) : Type 0 where
+-- `write_words`: values of 32 bits, behind 16 places
+pub record WordsDue (width shift word out acc : ℕ) : Type 0 where
   pub width-most : width ≤ 1024
   pub out-long : width ≤ out
+  pub acc-long : width + 16 ≤ acc
   pub shift-most : shift ≤ 31
-  pub words : narrow ≡ true → width + 16 ≤ acc
-  pub longs-long : narrow ≡ false → width ≤ length wide
-  pub longs : narrow ≡ false → (c : ℕ) → c < width → RoundFits (getD wide c 0) shift
+  pub word-least : 8 ≤ word
+  pub word-most : word ≤ 32
 
--- `take`: an accumulator at its start, which has values of 32 bits only for a narrow table
-pub record TakeFits (v : Arrival) (delay : ℕ) (narrow : Bool) (out : ℕ) (acc wide line zeros : List ℕ) : Type 0 where
+-- `write_longs`: values of 64 bits, which if it is sure fit their words
+pub record LongsDue (sure : Bool) (width shift word out : ℕ) (wide : List ℕ) : Type 0 where
+  pub out-long : width ≤ out
+  pub fits : WideWords width shift word wide
+  pub surely : sure ≡ true → (c : ℕ) → c < width → T (fitsSigned word (rounded (getD wide c 0) shift))
+
+-- `write_due`: either
+pub record PixelsDue (narrow sure : Bool) (width shift word out acc : ℕ) (wide : List ℕ) : Type 0 where
+  pub words : narrow ≡ true → WordsDue width shift word out acc
+  pub longs : narrow ≡ false → LongsDue sure width shift word out wide
+
+-- `take`: an accumulator at its start, which has values of 32 bits only for a narrow table, and is sure of its words only for a sure one
+pub record TakeFits (v : Arrival) (delay : ℕ) (narrow sure : Bool) (out : ℕ) (acc wide line zeros : List ℕ) : Type 0 where
   pub steps : StepFits v delay zeros
   pub fits : narrow ≡ true → narrowTable (v .table) ≡ true
+  pub surely : sure ≡ true → sureTable (v .table) ≡ true
   pub start : Accumulated v 0 narrow acc wide
   pub padded : ZeroPadded (v .width) line
   pub lent : v .width ≤ out
@@ -200,6 +220,10 @@ pub record TakeFits (v : Arrival) (delay : ℕ) (narrow : Bool) (out : ℕ) (acc
 -- an arrival that fits, with its delay
 abbrev pub RowFits : Arrival → (delay out : ℕ) → Type 0
 RowFits v delay out = Fits v out × (delay ≡ delayOf (v .table))
+
+-- and for which it is known whether the table is sure
+abbrev pub SureFits : Arrival → (delay : ℕ) → (sure : Bool) → (out : ℕ) → Type 0
+SureFits v delay sure out = RowFits v delay out × (sure ≡ true → sureTable (v .table) ≡ true)
 
 -- ---- what each step leaves
 
@@ -227,10 +251,14 @@ pub record AllUpdated (v : Arrival) (failed : ℕ) (narrow : Bool) (acc wide sum
   pub accepted : v .table .count ≤ failed → sums ≡ sumsAfter v
   pub refused : failed < v .table .count → sums ≡ grid (failed + 1) (v .width) (updatedSum v) ++ drop ((failed + 1) * v .width) (v .sums)
 
--- `take`: the same place; refused, sums and output are as they were, and else those that an accepted arrival leaves
-pub record Taken (v : Arrival) (out : List ℤ) (failed : ℕ) (sums′ : List ℕ) (out′ : List ℤ) : Type 0 where
-  pub first : failed ≡ firstNot (v .table .count) (λ k. all (v .width) (sumGood v k))
-  pub refused-sums : failed < v .table .count → sums′ ≡ v .sums
-  pub refused-out : failed < v .table .count → out′ ≡ out
-  pub accepted-sums : v .table .count ≤ failed → sums′ ≡ sumsAfter v
-  pub accepted-out : v .table .count ≤ failed → out′ ≡ outputAfter v out
+-- `write_due` and its parts: whether each pixel fits its word, asked where it is not sure; where they do, they are written
+pub record Written (sure : Bool) (width word : ℕ) (pixel : ℕ → ℤ) (good : Bool) (out out′ : List ℤ) : Type 0 where
+  pub answer : good ≡ (sure || all width (λ c. fitsSigned word (pixel c)))
+  pub accepted : good ≡ true → out′ ≡ tab width pixel ++ drop width out
+  pub refused : good ≡ false → out′ ≡ out
+
+-- `take`: all that an arrival leaves, but the row is not kept yet
+unfoldable pub takeOf : Arrival → (out : List ℤ) → Leaves
+takeOf v out =
+    firstNo (arrivalAsks v) (λ number place. leaves (Refused number place) (v .samples) (v .sums) out)
+    (leaves Accepted (v .samples) (sumsAfter v) (outputAfter v out))

@@ -4,12 +4,15 @@ ghost use mathlib.Core.Bool.{true};
 ghost use Prim.Native.Nat.{_≤_};
 ghost use lib.ListN.{length};
 ghost use Rattle.arrival.specs.Arrivals.{arriving, storesGood, leaves, arriveOf, Fits};
-ghost use Rattle.arrival.specs.Rectangles.{narrowTable, RowFits, Taken};
+ghost use Rattle.limits.specs.Limits.{acceptable};
+ghost use Rattle.arrival.specs.Rectangles.{narrowTable, sureTable, RowFits, SureFits, takeOf};
 use crate::rows::take;
+use arith::power;
+use grid::area_sums;
 use layout::Table;
 use layout::Verdict;
 use layout::delay;
-use limits::value_good;
+use limits::extremes_fit;
 use ring::keep;
 
 // Question 13, on the lengths of the stores.
@@ -25,19 +28,30 @@ pub fn stores_good(width: usize, count: usize, samples: usize, sums: usize) -> b
     width <= sums / count
 }
 
-// Whether every value of a table has 32 bits: question 10 with no shift and words of 32 bits.
-fn narrow(t: Table) -> bool
-    ensures { λ g. ⌜ g ≡ narrowTable t ⌝ }
+// What is known of a table's values on any stores whose sums pass question 19: whether every value has 32 bits, and whether every pixel
+// surely fits its word.
+struct Spans {
+    narrow: bool,
+    sure: bool,
+}
+
+// Both by the extremes over the areas of its rectangles, which its window sums keep to.
+fn span(t: Table) -> Spans
+    requires { ⌜ acceptable t ≡ true ⌝ }
+    ensures { λ s. ⌜ (s .narrow ≡ narrowTable t) × (s .sure ≡ sureTable t) ⌝ }
 {
-    let mut u = t;
-    u.t = 0;
-    u.w = 32;
-    value_good(u)
+    let e = area_sums(t);
+    let top = power(t.b) - 1;
+    Spans {
+        narrow: extremes_fit(top * e.high, top * e.low, 0, 32),
+        sure: extremes_fit(top * e.high, top * e.low, t.t, t.w),
+    }
 }
 
 // An arrival with values of 32 bits and at most 256 columns.
 fn take_short<'a>(
     t: Table,
+    sure: bool,
     width: usize,
     arrival: usize,
     delay: usize,
@@ -45,10 +59,11 @@ fn take_short<'a>(
     samples: &'a [u16],
     sums: &mut [u32],
     out: &mut [i32],
-) -> usize
-    requires { ⌜ RowFits (arriving t width arrival (now row) (now samples) (now sums)) delay (length (now out)) × (narrowTable t ≡ true) × (width ≤ 256) ⌝ }
-    ensures { λ f. ⌜ Taken (arriving t width arrival (now (row .entry)) (now (samples .entry)) (now (sums .entry))) (now (out .entry)) f
-        (now (sums .exit)) (now (out .exit)) ⌝ }
+) -> Verdict
+    requires { ⌜ SureFits (arriving t width arrival (now row) (now samples) (now sums)) delay sure (length (now out)) ⌝ }
+    requires { ⌜ (narrowTable t ≡ true) × (width ≤ 256) ⌝ }
+    ensures { λ v. ⌜ leaves v (now (samples .entry)) (now (sums .exit)) (now (out .exit))
+        ≡ takeOf (arriving t width arrival (now (row .entry)) (now (samples .entry)) (now (sums .entry))) (now (out .entry)) ⌝ }
 {
     let mut acc = [0u32; 272];
     let mut wide = [0u64; 1];
@@ -60,6 +75,7 @@ fn take_short<'a>(
         &mut line,
         &zeros,
         true,
+        sure,
         t,
         width,
         arrival,
@@ -74,6 +90,7 @@ fn take_short<'a>(
 // An arrival with values of 32 bits.
 fn take_long<'a>(
     t: Table,
+    sure: bool,
     width: usize,
     arrival: usize,
     delay: usize,
@@ -81,10 +98,11 @@ fn take_long<'a>(
     samples: &'a [u16],
     sums: &mut [u32],
     out: &mut [i32],
-) -> usize
-    requires { ⌜ RowFits (arriving t width arrival (now row) (now samples) (now sums)) delay (length (now out)) × (narrowTable t ≡ true) ⌝ }
-    ensures { λ f. ⌜ Taken (arriving t width arrival (now (row .entry)) (now (samples .entry)) (now (sums .entry))) (now (out .entry)) f
-        (now (sums .exit)) (now (out .exit)) ⌝ }
+) -> Verdict
+    requires { ⌜ SureFits (arriving t width arrival (now row) (now samples) (now sums)) delay sure (length (now out)) ⌝ }
+    requires { ⌜ narrowTable t ≡ true ⌝ }
+    ensures { λ v. ⌜ leaves v (now (samples .entry)) (now (sums .exit)) (now (out .exit))
+        ≡ takeOf (arriving t width arrival (now (row .entry)) (now (samples .entry)) (now (sums .entry))) (now (out .entry)) ⌝ }
 {
     let mut acc = [0u32; 1040];
     let mut wide = [0u64; 1];
@@ -96,6 +114,7 @@ fn take_long<'a>(
         &mut line,
         &zeros,
         true,
+        sure,
         t,
         width,
         arrival,
@@ -110,6 +129,7 @@ fn take_long<'a>(
 // An arrival with values of 64 bits.
 fn take_wide<'a>(
     t: Table,
+    sure: bool,
     width: usize,
     arrival: usize,
     delay: usize,
@@ -117,10 +137,10 @@ fn take_wide<'a>(
     samples: &'a [u16],
     sums: &mut [u32],
     out: &mut [i32],
-) -> usize
-    requires { ⌜ RowFits (arriving t width arrival (now row) (now samples) (now sums)) delay (length (now out)) ⌝ }
-    ensures { λ f. ⌜ Taken (arriving t width arrival (now (row .entry)) (now (samples .entry)) (now (sums .entry))) (now (out .entry)) f
-        (now (sums .exit)) (now (out .exit)) ⌝ }
+) -> Verdict
+    requires { ⌜ SureFits (arriving t width arrival (now row) (now samples) (now sums)) delay sure (length (now out)) ⌝ }
+    ensures { λ v. ⌜ leaves v (now (samples .entry)) (now (sums .exit)) (now (out .exit))
+        ≡ takeOf (arriving t width arrival (now (row .entry)) (now (samples .entry)) (now (sums .entry))) (now (out .entry)) ⌝ }
 {
     let mut acc = [0u32; 1];
     let mut wide = [2199023255552u64; 1024];
@@ -132,6 +152,7 @@ fn take_wide<'a>(
         &mut line,
         &zeros,
         false,
+        sure,
         t,
         width,
         arrival,
@@ -153,19 +174,20 @@ fn take_in<'a>(
     samples: &'a [u16],
     sums: &mut [u32],
     out: &mut [i32],
-) -> usize
+) -> Verdict
     requires { ⌜ RowFits (arriving t width arrival (now row) (now samples) (now sums)) delay (length (now out)) ⌝ }
-    ensures { λ f. ⌜ Taken (arriving t width arrival (now (row .entry)) (now (samples .entry)) (now (sums .entry))) (now (out .entry)) f
-        (now (sums .exit)) (now (out .exit)) ⌝ }
+    ensures { λ v. ⌜ leaves v (now (samples .entry)) (now (sums .exit)) (now (out .exit))
+        ≡ takeOf (arriving t width arrival (now (row .entry)) (now (samples .entry)) (now (sums .entry))) (now (out .entry)) ⌝ }
 {
-    if narrow(t) {
+    let s = span(t);
+    if s.narrow {
         if width <= 256 {
-            take_short(t, width, arrival, delay, row, samples, sums, out)
+            take_short(t, s.sure, width, arrival, delay, row, samples, sums, out)
         } else {
-            take_long(t, width, arrival, delay, row, samples, sums, out)
+            take_long(t, s.sure, width, arrival, delay, row, samples, sums, out)
         }
     } else {
-        take_wide(t, width, arrival, delay, row, samples, sums, out)
+        take_wide(t, s.sure, width, arrival, delay, row, samples, sums, out)
     }
 }
 
@@ -186,9 +208,10 @@ pub fn arrive(
 {
     let arrival = number as usize;
     let d = delay(t) as usize;
-    let failed = take_in(t, width, arrival, d, row, samples, sums, out);
-    if failed < t.count {
-        return Verdict::Refused(19, failed as u32);
+    let taken = take_in(t, width, arrival, d, row, samples, sums, out);
+    match taken {
+        Verdict::Refused(number, place) => return Verdict::Refused(number, place),
+        Verdict::Accepted => {}
     }
     keep(samples, row, width, arrival);
     Verdict::Accepted

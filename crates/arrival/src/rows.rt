@@ -1,15 +1,19 @@
-// A row over all rectangles: the values, where one fails question 19 the sums rolled back, and the pixels that are due.
+// A row over all rectangles: the values, the pixels that are due, and where question 19 is answered no the sums rolled back.
 ghost use mathlib.Core.Path.{_≡_};
 ghost use mathlib.Core.List.{_++_};
 ghost use Prim.Native.Nat.{_+_, _*_, _≤_};
-ghost use lib.ListN.{length, drop};
-ghost use Rattle.arith.specs.Tab.{tab, grid};
-ghost use Rattle.arrival.specs.Arrivals.{arriving};
-ghost use Rattle.arrival.specs.Rectangles.{rolledBackSum, pixelOf, StepFits, Accumulated, ZeroPadded, AllUpdated, PixelsFit};
-ghost use Rattle.arrival.specs.Rectangles.{TakeFits, Taken};
+ghost use lib.ListN.{length, getD, drop};
+ghost use Rattle.arith.specs.Tab.{grid};
+ghost use Rattle.passes.specs.Passes.{rounded, roundedWord};
+ghost use Rattle.arrival.specs.Arrivals.{arriving, leaves};
+ghost use Rattle.arrival.specs.Rectangles.{rolledBackSum, valueWord, pixelOf, StepFits, Accumulated, ZeroPadded, AllUpdated};
+ghost use Rattle.arrival.specs.Rectangles.{WordsDue, LongsDue, PixelsDue, Written, TakeFits, takeOf};
 use crate::rectangles::rectangle;
 use crate::rectangles::roll_back_rectangle;
 use layout::Table;
+use layout::Verdict;
+use passes::fit_narrow;
+use passes::fit_wide;
 use passes::running_sums;
 use passes::write_narrow;
 use passes::write_wide;
@@ -84,36 +88,80 @@ fn roll_back_first<'a>(
     }
 }
 
-// The pixels of all values into the first places of the output.
-fn write_pixels(
+// The pixels of values of 32 bits, or where q3 is 0 of their running sums, into the first places of the output where each fits its word.
+// Whether they do is asked where it is not sure.
+fn write_words(
+    out: &mut [i32],
+    acc: &mut [u32],
+    sure: bool,
+    width: usize,
+    q3: u8,
+    shift: u8,
+    word: u8,
+) -> bool
+    requires { ⌜ WordsDue width shift word (length (now out)) (length (now acc)) ⌝ }
+    ensures { λ g. ⌜ Written sure width word (λ c. roundedWord (valueWord q3 (now (acc .entry)) (16 + c)) shift) g (now (out .entry))
+        (now (out .exit)) ⌝ }
+{
+    if q3 == 0 {
+        running_sums(acc, width + 16);
+    }
+    let values = &acc[16..16 + width];
+    if !sure {
+        if !fit_narrow(values, width, shift, word) {
+            return false;
+        }
+    }
+    write_narrow(out, values, width, shift);
+    true
+}
+
+// The same of values of 64 bits.
+fn write_longs(out: &mut [i32], wide: &[u64], sure: bool, width: usize, shift: u8, word: u8) -> bool
+    requires { ⌜ LongsDue sure width shift word (length (now out)) (now wide) ⌝ }
+    ensures { λ g. ⌜ Written sure width word (λ c. rounded (getD (now (wide .entry)) c 0) shift) g (now (out .entry)) (now (out .exit)) ⌝ }
+{
+    if !sure {
+        if !fit_wide(wide, width, shift, word) {
+            return false;
+        }
+    }
+    write_wide(out, wide, width, shift);
+    true
+}
+
+// The pixels of all values into the first places of the output, where each fits its word.
+fn write_due(
     out: &mut [i32],
     acc: &mut [u32],
     wide: &[u64],
     narrow: bool,
+    sure: bool,
     width: usize,
     q3: u8,
     shift: u8,
-)
-    requires { ⌜ PixelsFit narrow width shift (length (now out)) (length (now acc)) (now wide) ⌝ }
-    ensures { λ _. ⌜ now (out .exit) ≡ tab width (pixelOf narrow q3 shift (now (acc .entry)) (now (wide .entry))) ++ drop width (now (out .entry)) ⌝ }
+    word: u8,
+) -> bool
+    requires { ⌜ PixelsDue narrow sure width shift word (length (now out)) (length (now acc)) (now wide) ⌝ }
+    ensures { λ g. ⌜ Written sure width word (pixelOf narrow q3 shift (now (acc .entry)) (now (wide .entry))) g (now (out .entry))
+        (now (out .exit)) ⌝ }
 {
     if narrow {
-        if q3 == 0 {
-            running_sums(acc, width + 16);
-        }
-        write_narrow(out, &acc[16..16 + width], width, shift);
+        write_words(out, acc, sure, width, q3, shift, word)
     } else {
-        write_wide(out, wide, width, shift);
+        write_longs(out, wide, sure, width, shift, word)
     }
 }
 
-// All of an arrival but the keeping of its row: the first rectangle that fails question 19, or their number.
+// All of an arrival but the keeping of its row: question 19, and what it leaves. A table whose pixels surely fit their words is not asked
+// for them.
 pub fn take<'a>(
     acc: &mut [u32],
     wide: &mut [u64],
     line: &mut [u32],
     zeros: &'a [u16],
     narrow: bool,
+    sure: bool,
     t: Table,
     width: usize,
     arrival: usize,
@@ -122,11 +170,11 @@ pub fn take<'a>(
     sums: &mut [u32],
     row: &'a [u16],
     out: &mut [i32],
-) -> usize
-    requires { ⌜ TakeFits (arriving t width arrival (now row) (now samples) (now sums)) delay narrow (length (now out))
+) -> Verdict
+    requires { ⌜ TakeFits (arriving t width arrival (now row) (now samples) (now sums)) delay narrow sure (length (now out))
         (now acc) (now wide) (now line) (now zeros) ⌝ }
-    ensures { λ f. ⌜ Taken (arriving t width arrival (now (row .entry)) (now (samples .entry)) (now (sums .entry))) (now (out .entry)) f
-        (now (sums .exit)) (now (out .exit)) ⌝ }
+    ensures { λ v. ⌜ leaves v (now (samples .entry)) (now (sums .exit)) (now (out .exit))
+        ≡ takeOf (arriving t width arrival (now (row .entry)) (now (samples .entry)) (now (sums .entry))) (now (out .entry)) ⌝ }
 {
     let failed = values(
         acc,
@@ -154,10 +202,14 @@ pub fn take<'a>(
             samples,
             row,
         );
-        return failed;
+        return Verdict::Refused(19, failed as u32);
     }
-    if delay <= arrival {
-        write_pixels(out, acc, wide, narrow, width, t.q3, t.t);
+    if arrival < delay {
+        return Verdict::Accepted;
     }
-    failed
+    if !write_due(out, acc, wide, narrow, sure, width, t.q3, t.t, t.w) {
+        roll_back_first(sums, zeros, t, t.count, width, arrival, delay, samples, row);
+        return Verdict::Refused(19, t.count as u32);
+    }
+    Verdict::Accepted
 }

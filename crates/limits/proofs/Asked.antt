@@ -45,13 +45,18 @@ fitting-few t e =
     leb→le _ _ (and-yes (leb (t .count) 16) _ (c .1) .0)
 
 -- the bounds behind the tests
+pub word-bounds : (t w : ℕ) → wordGood t w ≡ true → (t ≤ 31) × (8 ≤ w) × (w ≤ 32)
+unfolding wordGood
+word-bounds t w e =
+    let a = and-yes (leb t 31) (leb 8 w && leb w 32) (subst T (sym e) tt) in
+    let b = and-yes (leb 8 w) (leb w 32) (a .1) in
+    (leb→le _ _ (a .0), leb→le _ _ (b .0), leb→le _ _ (b .1))
+
 pub head-bounds : (t : Table) → HeadTests (t .b) (t .q1) (t .q2) (t .q3) (t .t) (t .w) → HeadGood t
-unfolding bitsGood wordGood
+unfolding bitsGood
 head-bounds t h =
     let b = and-yes (leb 1 (t .b)) (leb (t .b) 12) (subst T (sym (h .bits)) tt) in
-    let w = and-yes (leb (t .t) 31) (leb 8 (t .w) && leb (t .w) 32) (subst T (sym (h .word)) tt) in
-    let v = and-yes (leb 8 (t .w)) (leb (t .w) 32) (w .1) in
-    record { bits = leb→le _ _ (b .1); shift = leb→le _ _ (w .0); word-low = leb→le _ _ (v .0); word-high = leb→le _ _ (v .1) }
+    record { bits = leb→le _ _ (b .1); word = h .word }
 
 -- the bounds on the drops
 pub drops-bounds : (b q1 q2 q3 : ℕ) → bitsGood b ≡ true → dropsGood b q1 q2 q3 ≡ true → (q1 ≤ 11) × (q2 ≤ 8) × (q3 ≤ 8)

@@ -1,13 +1,12 @@
 -- The limits of a table: what the questions on its numbers ask.
 -- Assumes nothing.
 use Prim.Native.Nat.{ℕ, _-_, _*_, _^_}
-use mathlib.Core.Bool.{Bool, _&&_}
+use mathlib.Core.Bool.{Bool, cond, _&&_}
 use mathlib.Core.List.{List, [], _∷_}
-use lib.Dec.{leb, ltb}
+use lib.Dec.{leb, ltb, eqb}
 use lib.ListN.{length, getD}
 use lib.IntN.{ℤ, pos, negsuc, negℤ}
 use lib.Signed.{leZ, ltZ}
-use Rattle.arith.specs.Sum.{sum}
 use Rattle.arith.specs.All.{all}
 use Rattle.arith.specs.Part.{posPart, negPart}
 use Rattle.arith.specs.Floor.{floorDiv}
@@ -16,7 +15,7 @@ use Rattle.layout.specs.declared.Rect.{Rect}
 use Rattle.layout.specs.declared.Table.{Table}
 use Rattle.layout.specs.Answers.{Question, asks}
 use Rattle.layout.specs.Contents.{Contents, contents, noRect}
-use Rattle.layout.specs.Measure.{rowsOf, colsOf}
+use Rattle.grid.specs.Grid.{areaSum, gridSum}
 
 -- question 3: b is from 1 to 12
 unfoldable pub bitsGood : (b : ℕ) → Bool
@@ -43,25 +42,41 @@ edgesGood lead trail =
 unfoldable pub rectGood : Rect → Bool
 rectGood r = edgesGood (r .leadrow) (r .trailrow) && edgesGood (r .leadcol) (r .trailcol)
 
--- (2^b - 1) times the sum of part(weight)·M·N over the rectangles
+-- no bits are dropped
+unfoldable pub noDrops : Contents → Bool
+noDrops c = eqb (c .q1) 0 && (eqb (c .q2) 0 && eqb (c .q3) 0)
+
+-- M-104: the extreme over what is positive, or negative: (2^b - 1) times the sum over the weight grid, or where bits are dropped over the areas
 unfoldable pub extreme : (part : ℤ → ℕ) → Contents → ℕ
 extreme part c =
     (2 ^ c .b - 1)
-    * sum (length (c .rects)) (λ k. part (getD (c .rects) k noRect .weight) * (rowsOf (getD (c .rects) k noRect) * colsOf (getD (c .rects) k noRect)))
+    * cond (noDrops c) (gridSum part (length (c .rects)) (λ k. getD (c .rects) k noRect))
+    (areaSum part (length (c .rects)) (λ k. getD (c .rects) k noRect))
 
--- question 10: the extremes over positive and over negative weights, divided by 2^t and rounded down, fit the pixel word
+-- an upper and a lower extreme, divided by 2^t and rounded down, fit words of w bits
+unfoldable pub extremesFit : (high low t w : ℕ) → Bool
+extremesFit high low t w = fitsSigned w (floorDiv (pos high) t) && fitsSigned w (floorDiv (negℤ (pos low)) t)
+
+-- question 10: the extremes fit the pixel word
 unfoldable pub valueGood : Contents → Bool
-valueGood c =
-    fitsSigned (c .w) (floorDiv (pos (extreme posPart c)) (c .t)) && fitsSigned (c .w) (floorDiv (negℤ (pos (extreme negPart c))) (c .t))
+valueGood c = extremesFit (extreme posPart c) (extreme negPart c) (c .t) (c .w)
 
--- a table within the limits: questions 3, 4 and 5 on the header, 1 to 16 rectangles, question 8 on each and a weight of 16
--- bits, and question 10
-unfoldable pub within : Contents → Bool
-within c =
+-- the extremes by the areas alone fit it, which is question 10 as it was before M-104
+unfoldable pub areasGood : Contents → Bool
+areasGood c =
+    extremesFit ((2 ^ c .b - 1) * areaSum posPart (length (c .rects)) (λ k. getD (c .rects) k noRect))
+    ((2 ^ c .b - 1) * areaSum negPart (length (c .rects)) (λ k. getD (c .rects) k noRect)) (c .t) (c .w)
+
+-- the limits but question 10: questions 3, 4 and 5 on the header, 1 to 16 rectangles, question 8 on each and a weight of 16 bits
+unfoldable pub shaped : Contents → Bool
+shaped c =
     bitsGood (c .b) && (dropsGood (c .b) (c .q1) (c .q2) (c .q3) && (wordGood (c .t) (c .w)
     && (leb 1 (length (c .rects)) && (leb (length (c .rects)) 16
-    && (all (length (c .rects)) (λ k. rectGood (getD (c .rects) k noRect) && fitsSigned 16 (getD (c .rects) k noRect .weight))
-    && valueGood c)))))
+    && all (length (c .rects)) (λ k. rectGood (getD (c .rects) k noRect) && fitsSigned 16 (getD (c .rects) k noRect .weight))))))
+
+-- a table within the limits
+unfoldable pub within : Contents → Bool
+within c = shaped c && valueGood c
 
 -- questions 3 to 5, at most 16 rectangles, and question 10
 unfoldable pub fitting : Table → Bool

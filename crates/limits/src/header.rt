@@ -22,7 +22,7 @@ pub fn drops_good(b: u8, q1: u8, q2: u8, q3: u8) -> bool
 }
 
 // Question 5.
-fn word_good(t: u8, w: u8) -> bool
+pub fn word_good(t: u8, w: u8) -> bool
     ensures { λ g. ⌜ g ≡ wordGood t w ⌝ }
 {
     if 31 < t {

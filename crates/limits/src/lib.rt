@@ -12,4 +12,5 @@ pub use figure::loss;
 pub use header::bits_good;
 pub use header::head;
 pub use rects::rect_good;
+pub use value::extremes_fit;
 pub use value::value_good;

@@ -1,62 +1,30 @@
 // The question on the largest and the smallest value.
 ghost use mathlib.Core.Path.{_≡_};
-ghost use Prim.Native.Nat.{_*_, _≤_};
+ghost use mathlib.Core.Bool.{_&&_};
+ghost use Prim.Native.Nat.{_≤_};
 ghost use Rattle.layout.specs.Contents.{contents};
-ghost use Rattle.layout.specs.Measure.{rowsOf, colsOf};
-ghost use Rattle.limits.specs.Limits.{valueGood, fitting};
-ghost use Rattle.limits.specs.Slots.{HeadGood, ShareOf, ExtremesOf};
+ghost use Rattle.limits.specs.Limits.{wordGood, extremesFit, valueGood, fitting};
+ghost use Rattle.limits.specs.Slots.{HeadGood};
 use crate::header::head;
+use crate::header::word_good;
 use arith::power;
-use arith::sign_parts;
-use layout::Rect;
+use grid::area_sums;
+use grid::grid_sums;
 use layout::Table;
 use layout::Verdict;
-use layout::columns;
-use layout::rows;
 
-// M · N
-fn area(r: Rect) -> u64
-    ensures { λ x. ⌜ x ≡ rowsOf r * colsOf r ⌝ }
-    ensures { λ x. ⌜ x ≤ 65536 ⌝ }
+// Whether an upper and a lower extreme, divided by 2^shift and rounded down, fit words of `word` bits, which question 5 is asked of.
+pub fn extremes_fit(high: u64, low: u64, shift: u8, word: u8) -> bool
+    ensures { λ g. ⌜ g ≡ (wordGood shift word && extremesFit high low shift word) ⌝ }
 {
-    (rows(r) as u64) * (columns(r) as u64)
-}
-
-// weight · M · N over the positive and over the negative weights.
-pub struct Extremes {
-    pub high: u64,
-    pub low: u64,
-}
-
-// One rectangle's share.
-fn share(r: Rect) -> Extremes
-    ensures { λ e. ⌜ ShareOf r e ⌝ }
-{
-    let p = sign_parts(r.weight);
-    let n = area(r);
-    Extremes {
-        high: p.above as u64 * n,
-        low: p.below as u64 * n,
+    if !word_good(shift, word) {
+        return false;
     }
-}
-
-// The sums over all rectangles.
-fn extremes_of(t: Table) -> Extremes
-    requires { ⌜ t .count ≤ 16 ⌝ }
-    ensures { λ e. ⌜ ExtremesOf t e ⌝ }
-{
-    let n = t.count;
-    let mut high: u64 = 0;
-    let mut low: u64 = 0;
-    let mut k = 0;
-    while k < n {
-        let r = t.rects[k];
-        let e = share(r);
-        high += e.high;
-        low += e.low;
-        k += 1;
+    if (high >> shift) < power(word - 1) {
+        low <= power(word - 1 + shift)
+    } else {
+        false
     }
-    Extremes { high, low }
 }
 
 // Question 10, with questions 3 to 5 and the number of rectangles before it.
@@ -71,22 +39,24 @@ pub fn value_good(t: Table) -> bool
     if 16 < t.count {
         return false;
     }
-    extremes_fit(t)
+    extremes_good(t)
 }
 
-// Question 10, on a table whose header and number of rectangles are within the limits.
-fn extremes_fit(t: Table) -> bool
+// Question 10, on a table whose header and number of rectangles are within the limits. The areas suffice where their extremes fit; the
+// grid's are never larger, and are asked only where they are needed.
+fn extremes_good(t: Table) -> bool
     requires { ⌜ HeadGood t ⌝ }
     requires { ⌜ t .count ≤ 16 ⌝ }
     ensures { λ g. ⌜ g ≡ valueGood (contents t) ⌝ }
 {
-    let e = extremes_of(t);
     let top = power(t.b) - 1;
-    let high = top * e.high;
-    let low = top * e.low;
-    if (high >> t.t) < power(t.w - 1) {
-        low <= power(t.w - 1 + t.t)
-    } else {
-        false
+    let a = area_sums(t);
+    if extremes_fit(top * a.high, top * a.low, t.t, t.w) {
+        return true;
     }
+    if 0 < t.q1 as u32 + t.q2 as u32 + t.q3 as u32 {
+        return false;
+    }
+    let g = grid_sums(t);
+    extremes_fit(top * g.high, top * g.low, t.t, t.w)
 }

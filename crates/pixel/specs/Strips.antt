@@ -49,8 +49,8 @@ unfolding head square minus9 single left
 strips =
     shows (head 8 0 0 0 2 16 ++ square ++ minus9) 3 (replicate 9 10)
     (negsuc 12 ∷ negsuc 7 ∷ negsuc 12 ∷ negsuc 7 ∷ pos 0 ∷ negsuc 7 ∷ negsuc 12 ∷ negsuc 7 ∷ negsuc 12 ∷ [])
-    ∷ loads (head 8 0 0 0 2 11 ++ square ++ minus9) 0
-    ∷ loads (head 8 0 0 0 2 10 ++ square ++ minus9) 10
+    ∷ loads (head 8 0 0 0 2 10 ++ square ++ minus9) 0
+    ∷ loads (head 8 0 0 0 2 9 ++ square ++ minus9) 10
     ∷ sums (head 8 1 1 0 0 32 ++ square) 3 (replicate 9 3) 1 1 27 12 15
     ∷ sums (head 8 1 1 0 0 32 ++ square) 3 (replicate 9 4) 1 1 36 36 15
     ∷ sums (head 8 1 1 1 0 32 ++ square) 3 (replicate 9 4) 1 1 36 32 19

@@ -1,12 +1,12 @@
 -- The words that sums and pixels fit, on a table that loading accepts and samples of b bits.
 -- Assumes nothing.
-use Prim.Native.Nat.{ℕ, zero, suc, _+_, _-_, _*_, _/_, _%_, _^_, _≤_, _<_}
+use Prim.Native.Nat.{ℕ, suc, _+_, _-_, _*_, _/_, _^_, _≤_, _<_}
 use native.Mathlib.Nat.{mul-le-mul, mul-le-mul-left, le-trans, lt-of-le-of-lt}
 use native.Mathlib.Omega.{arith}
 use mathlib.Core.Path.{_≡_, refl, sym, ap, _∙_, subst}
-use mathlib.Core.Bool.{Bool, true, _&&_}
+use mathlib.Core.Bool.{Bool, true, false}
 use lib.Dec.{T, leb, ltb, leb→le, ltb→lt, le→leb, lt→ltb}
-use lib.IntN.{ℤ, pos, negsuc, negℤ, _*ℤ_}
+use lib.IntN.{ℤ, pos, negsuc, _+ℤ_, _*ℤ_}
 use lib.Pow.{pow-add, pow-pos, pow-mono, shr-lt, shr-mono, shl-shr, le-ones, lt-of-le-ones, suc-ones}
 use mir.Facts.{and-yes}
 use Rattle.arith.specs.Sum.{sum, sumℤ}
@@ -15,21 +15,24 @@ use Rattle.arith.specs.Diff.{Diff}
 use Rattle.arith.specs.Floor.{floorDiv}
 use Rattle.arith.specs.Log.{log2up}
 use Rattle.arith.specs.Twos.{fitsSigned}
-use Rattle.arith.proofs.Sums.{sum-bound, sum-mono, sum-scale}
+use Rattle.arith.proofs.Ints.{diff-parts, diff-scale, diff-sum, sumℤ-cong}
+use Rattle.arith.proofs.Sums.{sum-bound, sum-cong, sum-mono, sum-scale}
 use Rattle.arith.proofs.Words.{floor-fits-pos, floor-fits-neg}
 use Rattle.arith.proofs.Logs.{log-reaches}
 use Rattle.layout.specs.declared.Rect.{Rect}
 use Rattle.layout.specs.declared.Table.{Table}
 use Rattle.layout.specs.Contents.{contents, rect}
-use Rattle.layout.specs.Measure.{rowsOf, colsOf, columnWord, windowWord}
-use Rattle.limits.specs.Limits.{acceptable, valueGood}
-use Rattle.limits.specs.Slots.{term, terms}
-use Rattle.limits.proofs.Granted.{Granted, granted}
-use Rattle.limits.proofs.Values.{value-slots}
+use Rattle.layout.specs.Measure.{rowsOf, colsOf, columnWord, windowWord, lossFigure}
+use Rattle.grid.specs.Grid.{areaSum, offset, gridAt, gridSum}
+use Rattle.limits.specs.Limits.{noDrops, extremesFit, valueGood, acceptable}
+use Rattle.limits.proofs.Granted.{Granted, granted, granted-value}
+use Rattle.limits.specs.Slots.{areasFit}
+use Rattle.limits.proofs.Values.{fit-unsigned, no-drops, value-by}
 use Rattle.rule.specs.Sums.{Image, HasBits, covered, fullSum, columnSum, windowSum, scaledSum}
-use Rattle.rule.specs.Pixels.{cutValue, pixelOf}
-use Rattle.rule.proofs.Dropped.{full-window, full-dropped}
+use Rattle.rule.specs.Pixels.{fullValue, cutValue, pixelOf}
+use Rattle.rule.proofs.Dropped.{full-window, full-dropped, dropped-most}
 use Rattle.rule.proofs.Accurate.{weighted}
+use Rattle.rule.proofs.Spread.{value-grid}
 
 -- ---- sums
 
@@ -99,45 +102,95 @@ window-fits t a {x} h k l r c =
 -- ---- the pixel
 
 -- a value between two extremes, rounded down, fits where they do
-floor-fits :
-    (w t : ℕ) {p n high low : ℕ} (v : ℤ) → Diff v p n → p ≤ high → n ≤ low → high / 2 ^ t < 2 ^ (w - 1) → low ≤ 2 ^ (w - 1) * 2 ^ t
-    → T (fitsSigned w (floorDiv v t))
-floor-fits w t {p} {n} {high} (pos a) d h l x y =
-    let e = d .is in
-    let le : a ≤ high = omega arith in
-    rw (floor-fits-pos w t a) (lt→ltb (a / 2 ^ t) (2 ^ (w - 1)) (lt-of-le-of-lt (shr-mono t le) x))
-floor-fits w t {p} {n} {high} {low} (negsuc a) d h l x y =
-    let e = d .is in
-    rw (floor-fits-neg w t (suc a)) (le→leb (suc a) (2 ^ (w - 1) * 2 ^ t) (omega arith))
+between-fits :
+    (w t : ℕ) {p n high low : ℕ} (v : ℤ) → Diff v p n → p ≤ high → n ≤ low → T (extremesFit high low t w) → T (fitsSigned w (floorDiv v t))
+between-fits w t {p} {n} {high} {low} v d h l f =
+    let y = and-yes (ltb (high / 2 ^ t) (2 ^ (w - 1))) (leb low (2 ^ (w - 1 + t))) (subst T (fit-unsigned high low t w) f) in
+    go v d (ltb→lt (high / 2 ^ t) (2 ^ (w - 1)) (y .0)) (subst (λ m. low ≤ m) (pow-add 2 (w - 1) t) (leb→le low (2 ^ (w - 1 + t)) (y .1)))
+  where
+    go : (v : ℤ) → Diff v p n → high / 2 ^ t < 2 ^ (w - 1) → low ≤ 2 ^ (w - 1) * 2 ^ t → T (fitsSigned w (floorDiv v t))
+    go (pos a) d x y =
+        let e = d .is in
+        let le : a ≤ high = omega arith in
+        rw (floor-fits-pos w t a) (lt→ltb (a / 2 ^ t) (2 ^ (w - 1)) (lt-of-le-of-lt (shr-mono t le) x))
+    go (negsuc a) d x y =
+        let e = d .is in
+        rw (floor-fits-neg w t (suc a)) (le→leb (suc a) (2 ^ (w - 1) * 2 ^ t) (omega arith))
 
--- sums of at most M·N·(2^b - 1) each, under any weights, are at most their extreme
-under-extreme :
+-- sums of at most M·N·(2^b - 1) each, under any weights, are at most the areas' extreme
+under-areas :
     (part : ℤ → ℕ) (t : Table) (s : ℕ → ℕ) → ((k : ℕ) → k < t .count → s k ≤ rowsOf (rect t k) * colsOf (rect t k) * (2 ^ t .b - 1))
-    → sum (t .count) (λ k. part (rect t k .weight) * s k) ≤ (2 ^ t .b - 1) * sum (t .count) (terms part t)
-under-extreme part t s h =
-    subst (λ e. sum (t .count) (λ k. part (rect t k .weight) * s k) ≤ e) (sum-scale (t .count) (2 ^ t .b - 1) (terms part t))
+    → sum (t .count) (λ k. part (rect t k .weight) * s k) ≤ (2 ^ t .b - 1) * areaSum part (t .count) (rect t)
+unfolding areaSum
+under-areas part t s h =
+    subst (λ e. sum (t .count) (λ k. part (rect t k .weight) * s k) ≤ e)
+    (sum-scale (t .count) (2 ^ t .b - 1) (λ k. part (rect t k .weight) * (rowsOf (rect t k) * colsOf (rect t k))))
     (sum-mono (t .count) (λ k l. let m = mul-le-mul-left (part (rect t k .weight)) (h k l) in omega arith))
 
--- their weighted sum, divided and rounded down, fits the pixel word where question 10 holds
-pub extremes-fit :
-    (t : Table) → T (valueGood (contents t))
+-- whatever such sums are, their weighted sum, divided and rounded down, fits words that the areas' extremes fit
+pub areas-fit :
+    (t : Table) (shift word : ℕ) → T (areasFit t shift word)
     → (s : ℕ → ℕ) → ((k : ℕ) → k < t .count → s k ≤ rowsOf (rect t k) * colsOf (rect t k) * (2 ^ t .b - 1))
-    → T (fitsSigned (t .w) (floorDiv (sumℤ (t .count) (λ k. rect t k .weight *ℤ pos (s k))) (t .t)))
-extremes-fit t g s h =
-    let v = and-yes (ltb ((2 ^ t .b - 1) * sum (t .count) (terms posPart t) / 2 ^ t .t) (2 ^ (t .w - 1))) _ (subst T (value-slots t) g) in
-    let low : (2 ^ t .b - 1) * sum (t .count) (terms negPart t) ≤ 2 ^ (t .w - 1) * 2 ^ t .t =
-    subst (λ n. (2 ^ t .b - 1) * sum (t .count) (terms negPart t) ≤ n) (pow-add 2 (t .w - 1) (t .t)) (leb→le _ _ (v .1)) in
-    floor-fits (t .w) (t .t) _ (weighted t s) (under-extreme posPart t s h) (under-extreme negPart t s h) (ltb→lt _ _ (v .0)) low
+    → T (fitsSigned word (floorDiv (sumℤ (t .count) (λ k. rect t k .weight *ℤ pos (s k))) shift))
+areas-fit t shift word g s h =
+    between-fits word shift _ (weighted t s) (under-areas posPart t s h) (under-areas negPart t s h) g
 
-pub value-fits :
-    (t : Table) → acceptable t ≡ true
-    → (s : ℕ → ℕ) → ((k : ℕ) → k < t .count → s k ≤ rowsOf (rect t k) * colsOf (rect t k) * (2 ^ t .b - 1))
-    → T (fitsSigned (t .w) (floorDiv (sumℤ (t .count) (λ k. rect t k .weight *ℤ pos (s k))) (t .t)))
-value-fits t a = extremes-fit t (granted t a .value)
+-- ---- without drops
 
--- P2: the pixel fits the pixel word
+loss-none : (t : Table) → noDrops (contents t) ≡ true → (d : Rect) → lossFigure t d ≡ 0
+unfolding lossFigure
+loss-none t e d = let z = no-drops (contents t) e in rw (z .0, z .1, z .2) (omega arith)
+
+pub scaled-full : (t : Table) → noDrops (contents t) ≡ true → (x : Image) (d : Rect) (r c : ℤ) → scaledSum t x d r c ≡ fullSum x d r c
+scaled-full t e x d r c =
+    let l = loss-none t e d in
+    let m = dropped-most t x d r c in
+    let f = full-dropped t x d r c in
+    omega arith
+
+pub value-no-drops : (t : Table) → noDrops (contents t) ≡ true → (x : Image) (r c : ℤ) → cutValue t x r c ≡ fullValue t x r c
+unfolding cutValue fullValue
+value-no-drops t e x r c = sumℤ-cong (t .count) (λ k l. ap (λ s. rect t k .weight *ℤ pos s) (scaled-full t e x (rect t k) r c))
+
+-- the cut value by the entries of the grid, each as its two parts
+pub entries : (t : Table) → Granted t → noDrops (contents t) ≡ true → (x : Image) (r c : ℤ)
+    → Diff (cutValue t x r c)
+    (sum 31 (λ a. sum 31 (λ b. posPart (gridAt (t .count) (rect t) a b) * x (r +ℤ offset a) (c +ℤ offset b))))
+    (sum 31 (λ a. sum 31 (λ b. negPart (gridAt (t .count) (rect t) a b) * x (r +ℤ offset a) (c +ℤ offset b))))
+unfolding fullValue
+entries t g e x r c =
+    rw (value-no-drops t e x r c, value-grid (t .count) (rect t) (g .bounds) x r c)
+    (diff-sum 31 (λ a l. diff-sum 31 (λ b m. diff-scale (x (r +ℤ offset a) (c +ℤ offset b)) (diff-parts (gridAt (t .count) (rect t) a b)))))
+
+-- entries times samples of b bits are at most the grid's extreme
+under-grid :
+    (part : ℤ → ℕ) (t : Table) {x : Image} → HasBits (t .b) x → (r c : ℤ)
+    → sum 31 (λ a. sum 31 (λ b. part (gridAt (t .count) (rect t) a b) * x (r +ℤ offset a) (c +ℤ offset b)))
+    ≤ (2 ^ t .b - 1) * gridSum part (t .count) (rect t)
+unfolding gridSum
+under-grid part t {x} h r c =
+    let p : ℕ → ℕ → ℕ = λ a b. part (gridAt (t .count) (rect t) a b) in
+    subst (λ e. sum 31 (λ a. sum 31 (λ b. p a b * x (r +ℤ offset a) (c +ℤ offset b))) ≤ e)
+    (sum-cong 31 (λ a l. sum-scale 31 (2 ^ t .b - 1) (p a)) ∙ sum-scale 31 (2 ^ t .b - 1) (λ a. sum 31 (p a)))
+    (sum-mono 31 (λ a l. sum-mono 31 (λ b m. let z = mul-le-mul-left (p a b) (h (r +ℤ offset a) (c +ℤ offset b)) in omega arith)))
+
+-- ---- P2: the pixel fits the pixel word
+
+pub value-good-fits :
+    (t : Table) → Granted t → T (valueGood (contents t)) → {x : Image} → HasBits (t .b) x → (r c : ℤ) → T (fitsSigned (t .w) (pixelOf t x r c))
+unfolding pixelOf cutValue
+value-good-fits t g y {x} h r c = go (noDrops (contents t)) refl
+  where
+    areas : T (areasFit t (t .t) (t .w)) → T (fitsSigned (t .w) (floorDiv (cutValue t x r c) (t .t)))
+    areas z =
+        areas-fit t (t .t) (t .w) z (λ k. scaledSum t x (rect t k) r c)
+        (λ k l. le-trans (scaled-le-full t x (rect t k) r c) (full-most (t .b) h (rect t k) r c))
+
+    go : (b : Bool) → noDrops (contents t) ≡ b → T (fitsSigned (t .w) (floorDiv (cutValue t x r c) (t .t)))
+    go true e =
+        between-fits (t .w) (t .t) _ (entries t g e x r c) (under-grid posPart t h r c) (under-grid negPart t h r c) (subst T (value-by t e) y)
+    go false e = areas (subst T (value-by t e) y)
+
 pub pixel-fits :
     (t : Table) → acceptable t ≡ true → {x : Image} → HasBits (t .b) x → (r c : ℤ) → T (fitsSigned (t .w) (pixelOf t x r c))
-unfolding pixelOf cutValue
-pixel-fits t a {x} h r c =
-    value-fits t a (λ k. scaledSum t x (rect t k) r c) (λ k l. le-trans (scaled-le-full t x (rect t k) r c) (full-most (t .b) h (rect t k) r c))
+pixel-fits t a = value-good-fits t (granted t a) (granted-value t a)

@@ -1,7 +1,9 @@
 pub mod Mended
 pub mod Dropped
 pub mod Accurate
+pub mod Spread
 pub mod Fitting
+pub mod Peaks
 pub mod Depends
 pub mod Asked
 pub mod Frame

@@ -5,3 +5,4 @@ pub mod Steps
 pub mod Pixels
 pub mod Accuracy
 pub mod Questions
+pub mod Extremes

@@ -23,7 +23,7 @@ use Rattle.rule.specs.Mended.{mended}
 use Rattle.rule.specs.Questions.{widthGood}
 use Rattle.rule.proofs.Mended.{length-mended}
 use Rattle.ring.specs.Ring.{Kept}
-use Rattle.arrival.specs.Arrivals.{Arrival, storesGood, sumGood, arrivalAsks, samplesAfter, sumsAfter}
+use Rattle.arrival.specs.Arrivals.{Arrival, storesGood, sumGood, dueGood, arrivalAsks, samplesAfter, sumsAfter}
 use Rattle.scan.specs.declared.Scan.{Scan}
 use Rattle.scan.specs.Calls.{World, world, agrees, lentGood, startAsks, startOf, arrivalOf, dueSaid, takenIn}
 use Rattle.scan.specs.Calls.{rowArrival, rowIn, rowAsks, rowOf, shut, closeOf, stepIn, closingOf, stepOf}
@@ -37,7 +37,7 @@ use Rattle.model.proofs.Fair.{Fair, opened-fair, Known, row-known, row-fair, sh
 use Rattle.run.specs.Holds.{Starts, Stores}
 use Rattle.run.specs.Sequences.{filterOf, Call, single, rowsCall, engine, machineRows, answers}
 use Rattle.run.proofs.Arrives.{Finds}
-use Rattle.run.proofs.Stores.{finds, all-good, stores-next, output-is}
+use Rattle.run.proofs.Stores.{finds, all-good, due-good, stores-next, output-is}
 use Rattle.run.proofs.Starts.{stores-none, stores-agree}
 use Rattle.run.proofs.Alike.{feed-alike, left-alike}
 
@@ -107,9 +107,12 @@ module _ (t : Table) (l : ℕ) (m : Machine) (samples sums : List ℕ) (r : Foll
     finds-it : Finds (scanned l rows) v
     finds-it = finds t l (scanned l rows) a row samples sums (r .table) framed is found
 
-    -- 19 is never answered no
+    -- 19 is never answered no, of the sums and of the row that is due
     says : all (t .count) (λ k. all l (sumGood v k)) ≡ true
     says = all-good t l (scanned l rows) a row samples sums (r .table) framed is found
+
+    says-due : dueGood v ≡ true
+    says-due = due-good t l (scanned l rows) a row samples sums (r .table) framed is found
 
     -- the machine after it, whichever it is
     arrives : (after : Scan) (after′ : Machine) → Follows t l (world after (samplesAfter v) (sumsAfter v)) after′
@@ -149,6 +152,9 @@ module _ (t : Table) (l : ℕ) (m : Machine) (samples sums : List ℕ) (r : Foll
     row-never : all (t .count) (λ k. all l (sumGood (rowArrival here row) k)) ≡ true
     row-never = says more (mended row) out (known .good) is-last found-more
 
+    row-due : dueGood (rowArrival here row) ≡ true
+    row-due = says-due more (mended row) out (known .good) is-last found-more
+
     abbrev in-it : Left World
     in-it = takenIn here (rowIn (stateOf t l m)) (rowArrival here row) out
 
@@ -168,7 +174,8 @@ module _ (t : Table) (l : ℕ) (m : Machine) (samples sums : List ℕ) (r : Foll
   row-case : (row : List ℕ) (out : List ℤ) → Agree (Follows t l) (rowOf here row out) (machineRow f m row out)
   unfolding rowOf rowAsks arrivalAsks machineAsks
   row-case row out =
-      rw (state-good, lent-good (length out)) (row-agrees (Follows t l) f here m r row out _ (λ y. rw (row-never row out y) (taken row out y)))
+      rw (state-good, lent-good (length out))
+      (row-agrees (Follows t l) f here m r row out _ (λ y. rw (row-never row out y, row-due row out y) (taken row out y)))
 
   -- a closing step of a closed machine with steps left
   module _ (out : List ℤ) (shuts : m .closed ≡ true) (h : m .steps < delayOf t) where
@@ -184,6 +191,9 @@ module _ (t : Table) (l : ℕ) (m : Machine) (samples sums : List ℕ) (r : Foll
     step-never : all (t .count) (λ k. all l (sumGood (closingOf here) k)) ≡ true
     step-never = says (m .rows) zeros out (r .fair .good) is-dark (r .stores)
 
+    step-due : dueGood (closingOf here) ≡ true
+    step-due = says-due (m .rows) zeros out (r .fair .good) is-dark (r .stores)
+
     stepped : Agree (Follows t l) (takenIn here (stepIn (stateOf t l m)) (closingOf here) out) (dueLeft f a (m .rows) out (withStep m))
     stepped =
         let long : length zeros ≡ l = length-tab l (λ k. 0) in
@@ -198,7 +208,8 @@ module _ (t : Table) (l : ℕ) (m : Machine) (samples sums : List ℕ) (r : Foll
   step-case : (out : List ℤ) → Agree (Follows t l) (stepOf here out) (machineStep f m out)
   unfolding stepOf arrivalAsks
   step-case out =
-      rw (state-good, lent-good (length out)) (step-agrees (Follows t l) f here m r out _ (λ c h. rw (step-never out c h) (stepped out c h)))
+      rw (state-good, lent-good (length out))
+      (step-agrees (Follows t l) f here m r out _ (λ c h. rw (step-never out c h, step-due out c h) (stepped out c h)))
 
 -- ---- every call
 

@@ -2,14 +2,17 @@
 -- Assumes nothing.
 use Prim.Native.Nat.{ℕ, _+_, _-_, _*_, _%_, _≤_, _<_}
 use native.Mathlib.Omega.{arith}
-use mathlib.Core.Path.{_≡_, refl, ap, _∙_}
-use mathlib.Core.Bool.{Bool, true, false, not, cond}
+use mathlib.Core.Path.{_≡_, refl, sym, ap, subst, _∙_}
+use mathlib.Core.Bool.{Bool, true, false, not, cond, _||_}
 use mathlib.Core.List.{List, _++_}
 use lib.Dec.{T, ltb, nltb→le}
 use lib.IntN.{ℤ, pos}
 use lib.ListN.{length, getD, drop}
 use Rattle.arith.specs.All.{all}
 use Rattle.arith.specs.Tab.{tab}
+use Rattle.arith.specs.Twos.{fitsSigned}
+use Rattle.arith.proofs.Alls.{all-of}
+use Rattle.arith.proofs.Bools.{true-of, or-true}
 use Rattle.arith.proofs.Grids.{grid-long}
 use Rattle.arith.proofs.Pastes.{paste-length}
 use Rattle.arith.proofs.Tabs.{tab-cong}
@@ -19,7 +22,8 @@ use Rattle.layout.specs.Measure.{delayOf}
 use Rattle.limits.specs.Limits.{acceptable}
 use Rattle.rule.specs.Sums.{Image}
 use Rattle.rule.specs.Pixels.{pixelOf}
-use Rattle.arrival.specs.Arrivals.{Arrival, stored, newSum, sumGood, pixelAt, samplesAfter, sumsAfter, outputAfter}
+use Rattle.rule.proofs.Fitting.{pixel-fits}
+use Rattle.arrival.specs.Arrivals.{Arrival, stored, newSum, sumGood, pixelAt, dueGood, samplesAfter, sumsAfter, outputAfter}
 use Rattle.ring.proofs.Kept.{kept-next, place-end}
 use Rattle.model.proofs.Rows.{InFrame}
 use Rattle.run.specs.Holds.{Stores}
@@ -37,6 +41,15 @@ module _ (t : Table) (l : ℕ) (x : Image) (a : ℕ) (row samples sums : List �
 
     pub all-good : all (t .count) (λ k. all l (sumGood v k)) ≡ true
     all-good = sums-good x v finds
+
+    -- every pixel is one of the rule, and fits its word
+    pub due-good : dueGood v ≡ true
+    unfolding dueGood
+    due-good =
+        let fits : ℕ → Bool = λ c. fitsSigned (t .w) (pixelAt v c) in
+        let all-fit = all-of l fits (λ c h. subst (λ p. T (fitsSigned (t .w) p)) (sym (pixel-is x v finds c))
+        (pixel-fits t ok (framed .bits) _ (pos c))) in
+        ap (λ b. ltb a (delayOf t) || b) (true-of (all l fits) all-fit) ∙ or-true (ltb a (delayOf t))
 
     samples-same : length row ≡ l → length (samplesAfter v) ≡ length samples
     unfolding samplesAfter

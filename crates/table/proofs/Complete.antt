@@ -18,7 +18,7 @@ use Rattle.arith.proofs.Words.{signed-unsigned, unsigned-lt}
 use Rattle.layout.specs.declared.Rect.{Rect}
 use Rattle.layout.specs.declared.Verdict.the-variants.{Accepted}
 use Rattle.layout.specs.Contents.{Contents, noRect}
-use Rattle.limits.specs.Limits.{bitsGood, dropsGood, wordGood, rectGood, valueGood, within}
+use Rattle.limits.specs.Limits.{bitsGood, dropsGood, wordGood, rectGood, valueGood, shaped, within}
 use Rattle.layout.specs.Answers.{verdict}
 use Rattle.table.specs.Format.{Bytes, loaded, refused, marked, rectOf, plus, headerAsks, fieldAsks, fieldsOf, parseOf, fitOf, loadOf, encodeHead, encodeRect, encodeRects, encode}
 use Rattle.limits.specs.Limits.{headAsks}
@@ -108,22 +108,23 @@ pub record Within (c : Contents) : Type 0 where
   pub value : valueGood c ≡ true
 
 pub within-parts : (c : Contents) → T (within c) → Within c
-unfolding within
+unfolding within shaped
 within-parts c t =
-    let a = and-yes (bitsGood (c .b)) _ t in
+    let s = and-yes (shaped c) (valueGood c) t in
+    let a = and-yes (bitsGood (c .b)) _ (s .0) in
     let b = and-yes (dropsGood (c .b) (c .q1) (c .q2) (c .q3)) _ (a .1) in
     let d = and-yes (wordGood (c .t) (c .w)) _ (b .1) in
     let e = and-yes (leb 1 (length (c .rects))) _ (d .1) in
-    let f = and-yes (leb (length (c .rects)) 16) _ (e .1) in
-    let g = and-yes (all (length (c .rects)) (λ k. rectGood (getD (c .rects) k noRect) && fitsSigned 16 (getD (c .rects) k noRect .weight))) (valueGood c) (f .1) in
+    let f = and-yes (leb (length (c .rects)) 16)
+    (all (length (c .rects)) (λ k. rectGood (getD (c .rects) k noRect) && fitsSigned 16 (getD (c .rects) k noRect .weight))) (e .1) in
     record {
       bits = true-of _ (a .0);
       drops = true-of _ (b .0);
       word = true-of _ (d .0);
       some = leb→le _ _ (e .0);
       most = leb→le _ _ (f .0);
-      fine = λ k l. and-yes (rectGood (getD (c .rects) k noRect)) (fitsSigned 16 (getD (c .rects) k noRect .weight)) (all-at _ _ (g .0) k l);
-      value = true-of _ (g .1);
+      fine = λ k l. and-yes (rectGood (getD (c .rects) k noRect)) (fitsSigned 16 (getD (c .rects) k noRect .weight)) (all-at _ _ (f .1) k l);
+      value = true-of _ (s .1);
     }
 
 pub load-read : (c : Contents) → T (within c) → loadOf (encode c) ≡ loaded c

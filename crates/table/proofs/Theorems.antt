@@ -4,7 +4,7 @@ use Prim.Native.Nat.{ℕ, _+_, _≤_}
 use native.Mathlib.Omega.{arith}
 use mathlib.Core.Path.{_≡_, refl, sym, ap, _∙_, subst}
 use mathlib.Core.Logic.{_↔_}
-use mathlib.Core.Bool.{Bool, true, false, _&&_}
+use mathlib.Core.Bool.{Bool, true, false, cond, _&&_}
 use mathlib.Core.List.{List, [], _∷_, _++_}
 use lib.Dec.{T}
 use borrow.Author.Tests.{le-leb}
@@ -18,11 +18,12 @@ use lib.IntN.{pos}
 use Rattle.layout.specs.declared.Table.{Table}
 use Rattle.layout.specs.Contents.{Contents, noRect, contents}
 use Rattle.layout.specs.Answers.{refused as refusal, accepted}
-use Rattle.limits.specs.Limits.{bitsGood, rectGood, within, acceptable}
-use Rattle.table.specs.Format.{Bytes, Outcome, refused, loaded, loadOf, saidOf, tableFrom, readMost, encode}
+use Rattle.limits.specs.Limits.{bitsGood, rectGood, valueGood, areasGood, shaped, within, acceptable}
+use Rattle.limits.proofs.Values.{areas-suffice}
+use Rattle.table.specs.Format.{Bytes, Outcome, refused, loaded, parseOf, loadOf, saidOf, tableFrom, readMost, encode}
 use Rattle.table.specs.Writing.{fileLength, wrote, writeOf}
 use Rattle.table.proofs.Numbers.{Number, Outcomes, loads, fails, number-of, load-numbers}
-use Rattle.table.proofs.Sound.{same-contents, load-sound}
+use Rattle.table.proofs.Sound.{same-contents, parse-sound, fit-loaded, load-sound}
 use Rattle.table.proofs.Complete.{load-read, encode-bytes}
 use Rattle.table.proofs.Structs.{contents-tableOf}
 use Rattle.table.proofs.Encoded.{length-file}
@@ -39,12 +40,11 @@ written-back bs c byte e = load-sound bs c e .0 .again byte
 abbrev fine : Contents → ℕ → Bool
 fine c k = rectGood (getD (c .rects) k noRect) && fitsSigned 16 (getD (c .rects) k noRect .weight)
 
--- the table of an accepted file is within the limits
-pub loaded-within : (bs : List ℕ) (c : Contents) → Bytes bs → loadOf bs ≡ loaded c → T (within c)
-unfolding within
-loaded-within bs c byte e =
-    let s = load-sound bs c e in
-    let p = s .0 in
+-- the table of a file that passes questions 1 to 9 is within the limits but for question 10
+pub parsed-shaped : (bs : List ℕ) (c : Contents) → Bytes bs → parseOf bs ≡ loaded c → T (shaped c)
+unfolding shaped
+parsed-shaped bs c byte e =
+    let p = parse-sound bs c e in
     let h = p .head in
     rw (
       h .bits,
@@ -53,9 +53,29 @@ loaded-within bs c byte e =
       le-leb 1 _ (p .some),
       le-leb _ 16 (p .most),
       true-of (all (length (c .rects)) (fine c)) (all-of (length (c .rects)) (fine c) (λ k l. yes-and (rectGood (getD (c .rects) k noRect)) (fitsSigned 16 (getD (c .rects) k noRect .weight)) (subst T (sym (p .good k l)) tt) (p .weights byte k l))),
-      s .1,
     )
     tt
+
+-- the table of an accepted file is within the limits
+pub loaded-within : (bs : List ℕ) (c : Contents) → Bytes bs → loadOf bs ≡ loaded c → T (within c)
+unfolding within loadOf
+loaded-within bs c byte e =
+    let a = fit-loaded (parseOf bs) c e in
+    yes-and (shaped c) (valueGood c) (parsed-shaped bs c byte (a .0)) (subst T (sym (a .1)) tt)
+
+-- M104-4: every table that was accepted by the areas alone is accepted
+pub accepted-before : (c : Contents) → T (shaped c) → T (areasGood c) → loadOf (encode c) ≡ loaded c
+unfolding within
+accepted-before c s a = load-read c (yes-and (shaped c) (valueGood c) s (areas-suffice c a))
+
+-- a file that passes questions 1 to 9 gets 10 exactly where its table's question 10 is answered no
+pub load-ten : (bs : List ℕ) (c : Contents) → parseOf bs ≡ loaded c → (loadOf bs ≡ refused 10 0) ↔ (valueGood c ≡ false)
+unfolding loadOf
+load-ten bs c e = rw e (go (valueGood c))
+  where
+    go : (b : Bool) → (cond b (loaded c) (refused 10 0) ≡ refused 10 0) ↔ (b ≡ false)
+    go true = ((λ h. absurd (let z : _≡_ {A = ℕ} 0 1 = cc in omega arith)), λ h. absurd (subst T h tt))
+    go false = ((λ h. refl), λ h. refl)
 
 -- L3: question 11 says yes of a struct exactly when some file loads to the table that it holds
 pub accepted-exactly : (t : Table) → (acceptable t ≡ true) ↔ ((bs : List ℕ) × Bytes bs × (loadOf bs ≡ loaded (contents t)))
@@ -104,7 +124,7 @@ file-again bs c out byte e h =
 -- J4: the table of a refused file is refused by question 11, and writing it leaves the output as it was
 pub refused-table : (bs : List ℕ) (n p : ℕ) → loadOf bs ≡ refused n p
     → (acceptable (tableFrom (loadOf bs)) ≡ false) × ((out : List ℕ) → writeOf (tableFrom (loadOf bs)) out ≡ wrote (refusal 11 0) out)
-unfolding acceptable within bitsGood writeOf
+unfolding acceptable within shaped bitsGood writeOf
 refused-table bs n p e = rw e (refl, λ out. refl)
 
 -- the first 154 bytes of a file are enough: the table has at most 9 + 9·16 = 153, and of what follows only whether there is a byte

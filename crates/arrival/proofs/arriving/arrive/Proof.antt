@@ -1,18 +1,11 @@
--- `arrival::arrive` is refused at the first rectangle that fails question 19; else the ring holds the row, and sums and output are what
+-- `arrival::arrive` is refused where question 19 is answered no, with all as it was; else the ring holds the row, and sums and output are what
 -- an accepted arrival leaves.
 -- Assumes nothing.
-use Prim.Native.Nat.{ℕ, _≤_, _<_}
-use mathlib.Core.Path.{_≡_, refl, sym, subst}
-use mathlib.Core.Bool.{Bool, true}
-use mathlib.Core.List.{List}
-use lib.IntN.{ℤ}
+use denote.Ref.{now}
+use mathlib.Core.Path.{_≡_, refl, _∙_}
 use borrow.Author.Needs.{needs}
-use Rattle.arith.specs.All.{all}
-use Rattle.arith.proofs.Bools.{true-of}
-use Rattle.arith.proofs.Firsts.{first-below, first-beyond}
-use Rattle.layout.specs.declared.Verdict.{Verdict}
-use Rattle.limits.proofs.Granted.{granted}
-use Rattle.arrival.specs.Arrivals.{Arrival, arriving, sumGood, arrivalAsks, samplesAfter, leaves, arriveOf}
+use Rattle.arrival.specs.Arrivals.{Arrival, arriving, samplesAfter}
+use Rattle.arrival.proofs.Takes.{same-leaves, arrival-refused, arrival-accepted}
 use Rattle.arrival.proofs.arriving.arrive.Statement.{statement}
 use Rattle.arrival.proofs.arriving.arrive.Tie as tie
 
@@ -22,14 +15,6 @@ start w = w .before .before .before .before .before .before .before .before
 
 abbrev arrived : tie.After-take-in → Arrival
 arrived w = let a = start w .args in arriving (a .t) (a .width) (a .number) (a .row .now) (a .samples .now) (a .sums .now)
-
--- question 19 of rectangle k
-abbrev asked : Arrival → ℕ → Bool
-asked v k = all (v .width) (sumGood v k)
-
-same-leaves : {v : Verdict} {samples samples′ sums sums′ : List ℕ} {out out′ : List ℤ} → samples ≡ samples′ → sums ≡ sums′ → out ≡ out′
-    → leaves v samples sums out ≡ leaves v samples′ sums′ out′
-same-leaves e f g = rw (e, f, g) refl
 
 -- the arriving row in its place
 kept : (m : tie.After-keep) → let w = m .before .before .before .before .before .before .before in m .keep .last .0 ≡ samplesAfter (arrived w)
@@ -45,8 +30,8 @@ cast-d c = search needs
 take-in-requires : tie.Need-take-in-requires
 take-in-requires c κs = search needs
 
-cast-t19 : tie.Need-cast-t19
-cast-t19 c = let l = granted _ (start (c .before .before .before .before .before) .pre .table) .few in search (needs, l)
+enum-known-taken : tie.Need-enum-known-taken
+enum-known-taken c = search needs
 
 same-length : tie.Need-same-length
 same-length c = search needs
@@ -58,14 +43,12 @@ same-length-3 : tie.Need-same-length-3
 same-length-3 c = search needs
 
 returns : tie.Need-returns
-unfolding arriveOf arrivalAsks
 returns c =
-    let w = c .before .before .before .before .before in
-    let v = arrived w in
-    let t = w .take-in .ensures in
-    let h = c .if1 .taken in
-    rw (first-below (v .table .count) (asked v) (subst (λ n. n < v .table .count) (t .first) h), sym (t .first))
-    (same-leaves refl (t .refused-sums h) (t .refused-out h))
+    let w = c .before .before .before .before .before .before in
+    arrival-refused (arrived w) (now (start w .args .out)) (c .before .taken .given .1) (w .take-in .ensures)
+
+enum-told : tie.Need-enum-told
+enum-told c = search needs
 
 keep-requires : tie.Need-keep-requires
 keep-requires c κs = search needs
@@ -80,16 +63,11 @@ same-length-6 : tie.Need-same-length-6
 same-length-6 c = search needs
 
 returns-2 : tie.Need-returns-2
-unfolding arriveOf arrivalAsks
 returns-2 c =
     let m = c .before .before in
-    let e = m .before .before in
-    let w = e .before .before .before .before .before in
-    let v = arrived w in
-    let t = w .take-in .ensures in
-    let h = e .if1 .left in
-    let good = true-of (all (v .table .count) (asked v)) (first-beyond (v .table .count) (asked v) (subst (λ n. v .table .count ≤ n) (t .first) h)) in
-    rw good (same-leaves (kept m) (t .accepted-sums h) (t .accepted-out h))
+    let w = m .before .before .before .before .before .before .before in
+    same-leaves (kept m) refl refl ∙ arrival-accepted (arrived w) (now (start w .args .out)) (m .before .before .enum-told .given .1)
+    (w .take-in .ensures)
 
 pub arrive-spec : {M : Type 1} → statement M
 arrive-spec =
@@ -98,11 +76,12 @@ arrive-spec =
     delay-requires
     cast-d
     take-in-requires
-    cast-t19
+    enum-known-taken
     same-length
     same-length-2
     same-length-3
     returns
+    enum-told
     keep-requires
     same-length-4
     same-length-5

@@ -1,27 +1,37 @@
 -- `arrival::take_in` takes values of 32 bits where the table is narrow, and short lines where the row is.
 -- Assumes nothing.
-use mathlib.Core.Path.{sym, _∙_}
+use mathlib.Core.Path.{_≡_, sym, _∙_}
+use mathlib.Core.Bool.{true}
 use borrow.Author.Needs.{needs}
+use Rattle.arrival.specs.Rectangles.{sureTable}
 use Rattle.arrival.proofs.arriving.take_in.Statement.{statement}
 use Rattle.arrival.proofs.arriving.take_in.Tie as tie
 
-narrow-requires : tie.Need-narrow-requires
-narrow-requires c κs = search needs
+span-requires : tie.Need-span-requires
+span-requires c κs = search needs
+
+-- what is known of the table
+module _ (n : tie.After-span) where
+  abbrev start : tie.Start
+  start = n .before .before .before .before
+
+  sure-fits : n .span .result .sure ≡ true → sureTable (start .args .t) ≡ true
+  sure-fits e = sym (n .span .ensures .1) ∙ e
 
 take-short-requires : tie.Need-take-short-requires
 take-short-requires c κs =
     let t = c .before .before in
     let n = t .before .before in
-    (n .before .before .before .before .pre, sym (n .narrow .ensures) ∙ t .before .if1 .taken, t .if2 .taken)
+    ((start n .pre, sure-fits n), (sym (n .span .ensures .0) ∙ t .before .if1 .taken, t .if2 .taken))
 
 take-long-requires : tie.Need-take-long-requires
 take-long-requires c κs =
     let t = c .before .before .before in
     let n = t .before in
-    (n .before .before .before .before .pre, sym (n .narrow .ensures) ∙ t .if1 .taken)
+    ((start n .pre, sure-fits n), sym (n .span .ensures .0) ∙ t .if1 .taken)
 
 take-wide-requires : tie.Need-take-wide-requires
-take-wide-requires c κs = search needs
+take-wide-requires c κs = let n = c .before .before .before in (start n .pre, sure-fits n)
 
 same-length : tie.Need-same-length
 same-length c = search needs
@@ -54,7 +64,7 @@ pub take-in-spec : {M : Type 1} → statement M
 take-in-spec =
     tie.close
     (tie.spec
-    narrow-requires
+    span-requires
     take-short-requires
     take-long-requires
     take-wide-requires

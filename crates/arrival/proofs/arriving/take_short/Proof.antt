@@ -21,8 +21,8 @@ slice-aggregate-take-4 c = search needs
 take-requires : tie.Need-take-requires
 take-requires c κs =
     let s = c .before .before .before .before .before .before .before .before .before in
-    let l = s .pre .2 in
-    narrow-fits (s .pre .0) (s .pre .1) 272 304 256 _ (omega arith) (omega arith) (omega arith)
+    let l = s .pre .1 .1 in
+    narrow-fits (s .pre .0) (s .pre .1 .0) 272 304 256 _ (omega arith) (omega arith) (omega arith)
 
 same-length : tie.Need-same-length
 same-length c = search needs

@@ -30,8 +30,8 @@ returns-2 c =
     let h = head-accepted (t .b) (t .q1) (t .q2) (t .q3) (t .t) (t .w) (sym (s .before .before .head .ensures) ∙ s .enum-told2 .given .1) in
     rw (h .bits, h .drops, h .word, lt-leb _ _ (c .if1 .taken))
 
-extremes-fit-requires : tie.Need-extremes-fit-requires
-extremes-fit-requires c κs =
+extremes-good-requires : tie.Need-extremes-good-requires
+extremes-good-requires c κs =
     let s = c .before .before in
     let t = s .before .before .before .args .t in
     let h = head-accepted (t .b) (t .q1) (t .q2) (t .q3) (t .t) (t .w) (sym (s .before .before .head .ensures) ∙ s .enum-told2 .given .1) in
@@ -43,7 +43,7 @@ returns-3 c =
     let s = c .before .before .before in
     let t = s .before .before .before .args .t in
     let h = head-accepted (t .b) (t .q1) (t .q2) (t .q3) (t .t) (t .w) (sym (s .before .before .head .ensures) ∙ s .enum-told2 .given .1) in
-    rw (h .bits, h .drops, h .word, le-leb _ _ (c .before .if1 .left)) (c .extremes-fit .ensures)
+    rw (h .bits, h .drops, h .word, le-leb _ _ (c .before .if1 .left)) (c .extremes-good .ensures)
 
 pub value-good-spec : {M : Type 1} → statement M
 value-good-spec =
@@ -54,5 +54,5 @@ value-good-spec =
     returns
     enum-told-2
     returns-2
-    extremes-fit-requires
+    extremes-good-requires
     returns-3)

@@ -7,8 +7,8 @@ use native.Mathlib.Omega.{arith}
 use native.Mathlib.Nat.{mul-le-mul}
 use Prim.Native.Nat.{ℕ, _*_, _≤_}
 use borrow.Author.Needs.{needs}
-use Rattle.limits.proofs.value.share.Statement.{statement}
-use Rattle.limits.proofs.value.share.Tie as tie
+use Rattle.grid.proofs.areas.share.Statement.{statement}
+use Rattle.grid.proofs.areas.share.Tie as tie
 
 product : (a b : ℕ) → a ≤ 32768 → b ≤ 65536 → a * b ≤ 2147483648
 product a b h k = mul-le-mul h k
@@ -40,12 +40,7 @@ returns c = let s = c .before .before in
     let p = s .before .sign-parts .ensures in
     let e = rw (toZ-ofZ f) at (p .0) in
     let a = s .area .ensures in
-    record {
-      high = ap₂ _*_ (e .0) (a .0);
-      low = ap₂ _*_ (e .1) (a .0);
-      high-small = product _ _ (p .1 .0) (a .1);
-      low-small = product _ _ (p .1 .1) (a .1);
-    }
+    ((ap₂ _*_ (e .0) (a .0), ap₂ _*_ (e .1) (a .0)), (product _ _ (p .1 .0) (a .1), product _ _ (p .1 .1) (a .1)))
 
 pub share-spec : {M : Type 1} → statement M
 share-spec =

@@ -4,8 +4,8 @@ use mathlib.Core.Path.{ap₂}
 use native.Mathlib.Nat.{mul-le-mul}
 use native.Mathlib.Omega.{arith}
 use borrow.Author.Needs.{needs}
-use Rattle.limits.proofs.value.area.Statement.{statement}
-use Rattle.limits.proofs.value.area.Tie as tie
+use Rattle.grid.proofs.areas.area.Statement.{statement}
+use Rattle.grid.proofs.areas.area.Tie as tie
 
 rows-requires : tie.Need-rows-requires
 rows-requires c κs = search needs

@@ -4,24 +4,25 @@ use Rattle.arith.proofs.Sums.{sum-suc}
 use native.Mathlib.Numerals.{add-one}
 use native.Mathlib.Omega.{arith}
 use mathlib.Core.Path.{refl}
-use Rattle.limits.specs.Slots.{terms}
+use Rattle.grid.specs.Grid.{areaSum}
 use Rattle.layout.specs.Contents.{rect}
 use Rattle.arith.specs.Part.{posPart, negPart}
 use Rattle.arith.specs.Sum.{sum}
 use mathlib.Core.Path.{_≡_}
-use Prim.Native.Nat.{ℕ, _+_, _*_, _-_, _≤_, _<_}
+use Prim.Native.Nat.{_*_, _-_, _≤_}
 use borrow.Author.Needs.{needs}
-use Rattle.limits.proofs.value.extremes_of.Statement.{statement}
-use Rattle.limits.proofs.value.extremes_of.Tie as tie
+use Rattle.grid.proofs.areas.area_sums.Statement.{statement}
+use Rattle.grid.proofs.areas.area_sums.Tie as tie
 
 abbrev Inv-loop : tie.InvT-loop
-Inv-loop t n high₀ low₀ k₀ high low k = (k ≤ n) × (high ≡ sum k (terms posPart t)) × (low ≡ sum k (terms negPart t)) × (high ≤ k * 2147483648) × (low ≤ k * 2147483648)
+Inv-loop t n high₀ low₀ k₀ high low k = (k ≤ n) × (high ≡ areaSum posPart k (rect t)) × (low ≡ areaSum negPart k (rect t)) × (high ≤ k * 2147483648)
+    × (low ≤ k * 2147483648)
 
 abbrev μ-loop : tie.MeasureT-loop
 μ-loop t n high₀ low₀ k₀ high low k = n - k
 
 loop-holds : tie.Need-loop-holds Inv-loop μ-loop
-unfolding sum
+unfolding sum areaSum
 loop-holds c = (search needs, refl, refl, search needs, search needs)
 
 mul-r : tie.Need-mul-r Inv-loop μ-loop
@@ -46,25 +47,23 @@ loop-less : tie.Need-loop-less Inv-loop μ-loop
 loop-less c = search needs
 
 loop-again : tie.Need-loop-again Inv-loop μ-loop
+unfolding areaSum
 loop-again c = let i = c .before .before .before .before .before .loop .inv in
     let e = c .before .before .share .ensures in
-    let h = e .high in
-    let l = e .low in
+    let h = e .0 .0 in
+    let l = e .0 .1 in
+    let hs = e .1 .0 in
+    let ls = e .1 .1 in
     (omega arith, rw (add-one, sum-suc) (omega arith), rw (add-one, sum-suc) (omega arith), omega arith, omega arith)
 
 returns : tie.Need-returns Inv-loop μ-loop
 returns c = let i = c .before .loop .inv in
     let t = c .before .before .args .t1 in
     let e : c .before .loop .k ≡ t .count = omega arith in
-    record {
-      high = i .1 ∙ ap (λ n. sum n (terms posPart t)) e;
-      low = i .2 ∙ ap (λ n. sum n (terms negPart t)) e;
-      high-small = omega arith;
-      low-small = omega arith;
-    }
+    ((i .1 ∙ ap (λ n. areaSum posPart n (rect t)) e, i .2 ∙ ap (λ n. areaSum negPart n (rect t)) e), (omega arith, omega arith))
 
-pub extremes-of-spec : {M : Type 1} → statement M
-extremes-of-spec =
+pub area-sums-spec : {M : Type 1} → statement M
+area-sums-spec =
     tie.close
     (tie.spec
     Inv-loop
