@@ -38,6 +38,7 @@ header() { printf '\001\000\006'"$1"; }
     { head -c 9 "$table"; printf '\002\000\006\001\001\001\376\000\001'; } | says edges_equal
     head -c 9 "$table" | says header_alone
     { header '\010\000\000\000\002\012'; tail -c 18 "$table"; } | says word_10
+    { header '\010\000\000\000\002\011'; tail -c 18 "$table"; } | says word_9
     (cd "$work" && { "$screen" missing && echo "  0" || echo "  $?"; })
 } >"$work/said"
 diff examples/screen.expected "$work/said" || { echo "examples/screen.c does not say what examples/screen.expected has"; exit 1; }

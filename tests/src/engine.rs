@@ -2,7 +2,7 @@
 
 use crate::ffi::{Answer, Burst, Rect, Scan, Started, Table, DONE, REFUSED, ROW, WAITING};
 use crate::pixel::{first_above, last_live, width_good, DEAD, MOST_ROWS};
-use crate::table::{accepted, delay, largest_sample, rects, rows};
+use crate::table::{accepted, delay, fits, largest_sample, rects, rows};
 
 /// Rows that the sample store keeps.
 pub const KEPT: usize = 32;
@@ -157,6 +157,28 @@ impl<'a> Moment<'a> {
         }
         Ok(all)
     }
+
+    /// No row is due yet.
+    pub fn waits(&self) -> bool {
+        self.due < 0
+    }
+
+    /// The values out of the new column sums, due or not; none where question 19 says no to a sum.
+    pub fn values(&self, samples: &[u16], sums: &[u32]) -> Option<Vec<i64>> {
+        let lines = self.new_sums(samples, sums).ok()?;
+        Some(values(&self.scan.table, &lines))
+    }
+}
+
+/// The pixel of a value: shifted and rounded down.
+pub fn settled(table: &Table, value: i64) -> i64 {
+    value.div_euclid(1i64 << table.t)
+}
+
+/// The last half of question 19: do the pixels of these values fit their word?
+pub fn words_good(table: &Table, values: &[i64]) -> bool {
+    let good = |&value: &i64| fits(settled(table, value).into(), table.w);
+    values.iter().all(good)
 }
 
 /// The largest column sum of a rectangle, M times the largest cut sample.
@@ -180,16 +202,17 @@ fn window(table: &Table, rect: &Rect, line: &[u64], c: usize) -> u64 {
         .sum()
 }
 
-/// The pixel at column c out of the column sums.
-fn pixel(table: &Table, lines: &[Vec<u64>], c: usize) -> i32 {
-    let mut value = 0i64;
+/// The value of each column out of the column sums, before its shift.
+fn values(table: &Table, lines: &[Vec<u64>]) -> Vec<i64> {
+    let mut values = vec![0; lines[0].len()];
     for (rect, line) in rects(table).iter().zip(lines) {
-        let cut = window(table, rect, line, c) >> table.q3;
-        let scaled = cut << (table.q1 + table.q2 + table.q3);
-        value += i64::from(rect.weight) * scaled as i64;
+        for (c, value) in values.iter_mut().enumerate() {
+            let cut = window(table, rect, line, c) >> table.q3;
+            let scaled = cut << (table.q1 + table.q2 + table.q3);
+            *value += i64::from(rect.weight) * scaled as i64;
+        }
     }
-    let floor = value.div_euclid(1i64 << table.t);
-    floor.try_into().expect("a pixel fits 32 bits")
+    values
 }
 
 fn refused(scan: &Scan, number: u32, place: u32) -> Answer {
@@ -201,7 +224,7 @@ fn refused(scan: &Scan, number: u32, place: u32) -> Answer {
     }
 }
 
-/// An arrival: question 19, then the sums, the kept row and, if a row is due, the output.
+/// An arrival: question 19, of the sums and last of the pixels due; then the sums, the kept row and, if a row is due, the output.
 fn arrive(
     scan: &Scan,
     arrival: Arrival,
@@ -215,6 +238,14 @@ fn arrive(
         Err(place) => return refused(scan, 19, place),
     };
     let width = scan.width;
+    let due = if moment.waits() {
+        Vec::new()
+    } else {
+        values(&scan.table, &lines)
+    };
+    if !words_good(&scan.table, &due) {
+        return refused(scan, 19, scan.table.count as u32);
+    }
     for (k, line) in lines.iter().enumerate() {
         for (c, &sum) in line.iter().enumerate() {
             sums[k * width + c] = sum as u32;
@@ -228,14 +259,11 @@ fn arrive(
         Arrival::Row(_) => after.rows += 1,
         Arrival::Zeros => after.steps += 1,
     }
-    let kind = if moment.due < 0 { WAITING } else { ROW };
-    if kind == ROW {
-        for (c, place) in out[..width].iter_mut().enumerate() {
-            *place = pixel(&scan.table, &lines, c);
-        }
+    for (place, &value) in out.iter_mut().zip(&due) {
+        *place = settled(&scan.table, value) as i32;
     }
     Answer {
-        kind,
+        kind: if moment.waits() { WAITING } else { ROW },
         number: moment.due.max(0) as u32,
         place: 0,
         scan: after,

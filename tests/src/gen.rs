@@ -4,7 +4,7 @@ use crate::ffi::{Rank, Rect, Table, Window};
 use crate::pixel::DEAD;
 use crate::rank;
 use crate::rng::Rng;
-use crate::table::{self, columns, extremes, fits, rows};
+use crate::table::{self, columns, delay, extremes, fits, rows};
 
 /// A lead and a trail within the limits.
 fn edges(rng: &mut Rng) -> (i8, i8) {
@@ -133,8 +133,206 @@ pub fn table_of(rng: &mut Rng, count: usize) -> Table {
             slot.weight %= 100;
         }
     }
+    if rng.one_in(3) {
+        cancel(rng, &mut table.rects[..count]);
+    }
     settle_word(rng, &mut table);
     table
+}
+
+/// Edges within others: all of them, one less on both sides, or any part.
+fn edges_within(rng: &mut Rng, lead: i8, trail: i8) -> (i8, i8) {
+    match rng.below(3) {
+        0 => (lead, trail),
+        1 if lead - trail > 2 => (lead - 1, trail + 1),
+        _ => {
+            let end = rng.range(i64::from(trail) + 1, lead.into());
+            (end as i8, rng.range(trail.into(), end - 1) as i8)
+        }
+    }
+}
+
+/// A part of a rectangle with a weight of its own.
+fn part(rng: &mut Rng, of: &Rect, weight: i16) -> Rect {
+    let (leadrow, trailrow) = edges_within(rng, of.leadrow, of.trailrow);
+    let (leadcol, trailcol) = edges_within(rng, of.leadcol, of.trailcol);
+    Rect {
+        leadrow,
+        leadcol,
+        trailrow,
+        trailcol,
+        weight,
+    }
+}
+
+fn shuffle<T>(rng: &mut Rng, list: &mut [T]) {
+    for k in 1..list.len() {
+        list.swap(k, rng.below(k + 1));
+    }
+}
+
+/// Makes every second rectangle a part of the one before it with the opposite weight, or nearly so.
+fn cancel(rng: &mut Rng, rects: &mut [Rect]) {
+    for two in rects.chunks_exact_mut(2) {
+        let weight = two[0].weight.saturating_neg();
+        let off = rng.pick(&[0, 0, 0, 1, -1, 40]);
+        two[1] = part(rng, &two[0], weight.saturating_add(off));
+    }
+    shuffle(rng, rects);
+}
+
+/// A table that loading accepts, without drops, whose weights cancel; its word is as short as it can be.
+pub fn cancelling(rng: &mut Rng, count: usize) -> Table {
+    let mut table = table_of(rng, count);
+    (table.q1, table.q2, table.q3) = (0, 0, 0);
+    cancel(rng, &mut table.rects[..count]);
+    settle_word(rng, &mut table);
+    table.w = least_word(&table);
+    table
+}
+
+/// The same with two pairs at its end that cover the pixel's column and cancel wholly, one heavy and one of weight 1: their sums, altered,
+/// lift a pixel to any value.
+pub fn loose(rng: &mut Rng) -> Table {
+    let count = rng.pick(&[1, 2, 2, 4, 12]);
+    let mut table = cancelling(rng, count);
+    if rng.one_in(3) {
+        table.b = 12;
+        settle_word(rng, &mut table);
+        table.w = least_word(&table);
+    }
+    let most = delay(&table) as i8;
+    for weight in [rng.pick(&[9, 300, 32_767, 32_767]), 1] {
+        let mut one = rect(rng);
+        lower(&mut one, most);
+        one.leadcol = rng.pick(&[0, 0, 1, 7]);
+        one.trailcol = rng.pick(&[-1, -1, -2, -9]);
+        if rng.one_in(2) {
+            one.trailrow = -16;
+        }
+        for weight in [weight, -weight] {
+            table.rects[table.count] = Rect { weight, ..one };
+            table.count += 1;
+        }
+    }
+    if rng.one_in(4) {
+        table.w = rng.range(table.w.into(), 32) as u8;
+    }
+    table
+}
+
+/// The largest total on one side, weight × area or of the grid, that question 10 lets pass.
+pub fn largest_total(table: &Table, positive: bool) -> i64 {
+    let end = 1i64 << (table.w - 1 + table.t);
+    let largest = i64::from(table::largest_sample(table));
+    if positive {
+        (end - 1) / largest
+    } else {
+        end / largest
+    }
+}
+
+/// A header, drops aside, whose largest total on one side is from 2 to `most`.
+pub fn head_for(rng: &mut Rng, positive: bool, most: i64) -> Table {
+    let mut table = Table {
+        b: rng.range(1, 12) as u8,
+        w: rng.range(8, 32) as u8,
+        t: rng.range(0, 31) as u8,
+        ..Table::default()
+    };
+    while largest_total(&table, positive) > most {
+        if table.t > 0 {
+            table.t -= 1;
+        } else {
+            table.w -= 1;
+        }
+    }
+    while largest_total(&table, positive) < 2 {
+        table.w += 1;
+    }
+    table
+}
+
+fn covered(rect: &Rect) -> i64 {
+    rows(rect) * columns(rect)
+}
+
+/// The one sample at an offset from the pixel.
+fn spot(row: i64, column: i64, weight: i16) -> Rect {
+    Rect {
+        leadrow: row as i8,
+        leadcol: column as i8,
+        trailrow: row as i8 - 1,
+        trailcol: column as i8 - 1,
+        weight,
+    }
+}
+
+/// A spot under a rectangle, outside a smaller one.
+fn spot_between(rng: &mut Rng, outer: &Rect, inner: &Rect, weight: i16) -> Rect {
+    loop {
+        let row = rng.range(i64::from(outer.trailrow) + 1, outer.leadrow.into());
+        let column = rng.range(i64::from(outer.trailcol) + 1, outer.leadcol.into());
+        let lies = |lead: i8, trail: i8, at: i64| i64::from(trail) < at && at <= lead.into();
+        if !lies(inner.leadrow, inner.trailrow, row) || !lies(inner.leadcol, inner.trailcol, column)
+        {
+            return spot(row, column, weight);
+        }
+    }
+}
+
+/// A table without drops whose grid adds up, on one side, to `past` more than question 10 lets pass, while its rectangles add up to more: a
+/// rectangle and a part of it take each other away but for a ring, and one spot of the ring brings what is left over. The other side may
+/// have a little too.
+pub fn ringed(rng: &mut Rng, positive: bool, past: i64) -> Table {
+    let outer = rect(rng);
+    let inner = part(rng, &outer, 0);
+    let ring = covered(&outer) - covered(&inner);
+    if ring == 0 {
+        return ringed(rng, positive, past);
+    }
+    let sign = if positive { 1 } else { -1 };
+    let mut table = head_for(rng, positive, 6 * 32_000 * ring);
+    let total = largest_total(&table, positive) + past;
+    let mut level = total / ring;
+    let rest = sign * (total % ring) as i16;
+    let mut list = vec![spot_between(rng, &outer, &inner, rest)];
+    while level > 0 {
+        let weight = sign * level.min(32_000) as i16;
+        list.push(Rect { weight, ..outer });
+        list.push(Rect {
+            weight: -weight,
+            ..inner
+        });
+        level -= level.min(32_000);
+    }
+    let deep = rng.pick(&[0, 1, 7]);
+    if i64::from(deep) * covered(&inner) <= largest_total(&table, !positive) {
+        let weight = -sign * deep;
+        list.push(Rect { weight, ..inner });
+    }
+    if list.len() < 15 && (list.len() < 3 || rng.one_in(2)) {
+        let one = rect(rng);
+        let weight = rng.range(1, 32_767) as i16;
+        list.push(Rect { weight, ..one });
+        list.push(Rect {
+            weight: -weight,
+            ..one
+        });
+    }
+    shuffle(rng, &mut list);
+    table.count = list.len();
+    table.rects[..list.len()].copy_from_slice(&list);
+    table
+}
+
+/// Sets one drop or more.
+pub fn some_drops(rng: &mut Rng, table: &mut Table) {
+    while table::no_drops(table) {
+        table.q1 = rng.range(0, (i64::from(table.b) - 1).min(1)) as u8;
+        table.q2 = rng.pick(&[0, 0, 1, 8]);
+        table.q3 = rng.pick(&[0, 0, 1, 8]);
+    }
 }
 
 /// A table that loading accepts, with zeros in the slots that it does not use.
@@ -235,7 +433,7 @@ fn live_row(rng: &mut Rng, largest: u16, width: usize) -> Vec<u16> {
 
 /// What a pixel costs to work out from its definition, in samples.
 pub fn area(table: &Table) -> usize {
-    let of = |rect: &Rect| (rows(rect) * columns(rect)) as usize;
+    let of = |rect: &Rect| covered(rect) as usize;
     table::rects(table).iter().map(of).sum()
 }
 

@@ -60,24 +60,60 @@ fn rect_good(rect: &Rect) -> bool {
     edges_good(rect.leadrow, rect.trailrow) && edges_good(rect.leadcol, rect.trailcol)
 }
 
-/// The two values of question 10: over negative and over positive weights, shifted and rounded down.
-pub fn extremes(table: &Table) -> (i128, i128) {
-    let mut low = 0i128;
-    let mut high = 0i128;
+/// The weight grid: for each offset from -15 to 15, top row first and left to right, the total weight of the rectangles that cover it.
+pub fn grid(table: &Table) -> Vec<i64> {
+    let mut grid = vec![0; 31 * 31];
     for rect in rects(table) {
-        let term = i128::from(rect.weight) * i128::from(rows(rect)) * i128::from(columns(rect));
-        if term > 0 {
-            high += term;
-        } else {
-            low += term;
+        for row in rect.trailrow + 1..=rect.leadrow {
+            for column in rect.trailcol + 1..=rect.leadcol {
+                grid[(row + 15) as usize * 31 + (column + 15) as usize] += i64::from(rect.weight);
+            }
         }
     }
-    let largest = (1i128 << table.b) - 1;
+    grid
+}
+
+/// Is nothing dropped?
+pub fn no_drops(table: &Table) -> bool {
+    [table.q1, table.q2, table.q3] == [0; 3]
+}
+
+/// The negative and the positive ones of these added up, times the largest sample, shifted and rounded down.
+fn ends(table: &Table, terms: impl Iterator<Item = i64>) -> (i128, i128) {
+    let (mut low, mut high) = (0i128, 0i128);
+    for term in terms {
+        if term > 0 {
+            high += i128::from(term);
+        } else {
+            low += i128::from(term);
+        }
+    }
+    let largest = i128::from(largest_sample(table));
     let unit = 1i128 << table.t;
     (
         (low * largest).div_euclid(unit),
         (high * largest).div_euclid(unit),
     )
+}
+
+/// The least and the largest pixel by the weight grid.
+pub fn grid_extremes(table: &Table) -> (i128, i128) {
+    ends(table, grid(table).into_iter())
+}
+
+/// The same by the rectangles one by one, as if none could cancel another.
+pub fn area_extremes(table: &Table) -> (i128, i128) {
+    let area = |rect: &Rect| i64::from(rect.weight) * rows(rect) * columns(rect);
+    ends(table, rects(table).iter().map(area))
+}
+
+/// The two values of question 10.
+pub fn extremes(table: &Table) -> (i128, i128) {
+    if no_drops(table) {
+        grid_extremes(table)
+    } else {
+        area_extremes(table)
+    }
 }
 
 /// Does a number fit the signed word of w bits?
@@ -86,10 +122,14 @@ pub fn fits(value: i128, w: u8) -> bool {
     -half <= value && value < half
 }
 
+/// Do two extremes fit the pixel word?
+pub fn both_fit(table: &Table, (low, high): (i128, i128)) -> bool {
+    fits(low, table.w) && fits(high, table.w)
+}
+
 /// Question 10.
 fn extremes_good(table: &Table) -> bool {
-    let (low, high) = extremes(table);
-    fits(low, table.w) && fits(high, table.w)
+    both_fit(table, extremes(table))
 }
 
 /// Question 11: is this a table that loading accepts?

@@ -8,7 +8,8 @@ use crate::engine::{self, KEPT};
 use crate::ffi::{self, Answer, Burst, Scan, Started, Table, DONE, REFUSED, ROW, WAITING};
 use crate::pixel::{last_live, DEAD};
 use crate::rng::Rng;
-use crate::tally::{same, Outcome, Tally};
+use crate::table::{area_extremes, both_fit};
+use crate::tally::{holds, same, Outcome, Tally};
 
 /// Places on both sides of a lent part that nobody may touch.
 const MARGIN: usize = 4;
@@ -226,8 +227,28 @@ impl<'a> Bench<'a> {
     }
 
     /// The sample store as it is lent.
-    pub fn samples(&mut self) -> &[u16] {
-        self.papers.samples.part()
+    pub fn samples(&self) -> &[u16] {
+        self.papers.samples.read()
+    }
+
+    /// The sum store as it is lent.
+    pub fn sums(&self) -> &[u32] {
+        self.papers.sums.read()
+    }
+
+    /// A 19 for the pixels due, which only a table that the old rule refuses can get.
+    fn note_word(
+        &mut self,
+        call: &'static str,
+        table: &Table,
+        (number, place): (u32, u32),
+    ) -> Outcome {
+        if number != 19 || place as usize != table.count {
+            return Ok(());
+        }
+        self.tally.saw(call);
+        let loose = !both_fit(table, area_extremes(table));
+        holds("a pixel past its word, by a table of the grid", loose)
     }
 
     /// The output as the library left it.
@@ -268,6 +289,10 @@ impl<'a> Bench<'a> {
         self.agree("row", &library, &papers)?;
         self.tally.saw_if("row out", papers.kind == ROW);
         self.tally.saw_if("waiting", papers.kind == WAITING);
+        if papers.kind == REFUSED {
+            let said = (papers.number, papers.place);
+            self.note_word("19 place K in a row", &scan.table, said)?;
+        }
         if papers.kind != REFUSED {
             self.note_dead(row);
         }
@@ -296,6 +321,8 @@ impl<'a> Bench<'a> {
         same("rows", &library, &papers)?;
         self.equal_after("rows")?;
         self.tally.answered("rows", papers.refusal);
+        let said = (papers.refusal, papers.place);
+        self.note_word("19 place K in a burst", &scan.table, said)?;
         if papers.taken > 1 {
             let taken: Vec<&[u16]> = rows.chunks(scan.width).take(papers.taken).collect();
             let across = |two: &[&[u16]]| last_live(two[0]) > 0 && two[1][0] == DEAD;
@@ -315,6 +342,10 @@ impl<'a> Bench<'a> {
         self.tally.saw_if("step: row out", papers.kind == ROW);
         self.tally.saw_if("step: waiting", papers.kind == WAITING);
         self.tally.saw_if("step: done", papers.kind == DONE);
+        if papers.kind == REFUSED {
+            let said = (papers.number, papers.place);
+            self.note_word("19 place K in a step", &scan.table, said)?;
+        }
         Ok(papers)
     }
 }

@@ -14,7 +14,7 @@ pub struct Next {
 }
 
 impl Next {
-    fn new(rng: &mut Rng, scan: &Scan) -> Next {
+    pub fn new(rng: &mut Rng, scan: &Scan) -> Next {
         let row = (!scan.closed).then(|| gen::row(rng, &scan.table, scan.width));
         Next { row }
     }
@@ -26,7 +26,7 @@ impl Next {
         }
     }
 
-    fn call(&self, bench: &mut Bench, scan: &Scan) -> Result<Answer, String> {
+    pub fn call(&self, bench: &mut Bench, scan: &Scan) -> Result<Answer, String> {
         match &self.row {
             Some(row) => bench.row(scan, row),
             None => bench.step(scan),
@@ -34,7 +34,7 @@ impl Next {
     }
 }
 
-/// Fills both stores so that question 19 passes for the arrival, whatever the state.
+/// Fills both stores so that question 19 passes for every sum of the arrival, whatever the state.
 pub fn fill(rng: &mut Rng, bench: &mut Bench, scan: &Scan, arrival: Arrival) {
     let Scan { table, width, .. } = scan;
     let largest = i64::from(largest_sample(table));
@@ -134,9 +134,8 @@ fn altered_call(
     let answer = next.call(bench, state)?;
     if was_19(&answer) {
         bench.tally.saw("altered, 19");
-        bench
-            .tally
-            .saw_if("19 at a later rectangle", answer.place > 0);
+        let later = (1..state.table.count as u32).contains(&answer.place);
+        bench.tally.saw_if("19 at a later rectangle", later);
         bench.put_back(&kept);
         if rng.one_in(2) {
             // The same call is accepted, or refused, by what was there before.
@@ -148,7 +147,8 @@ fn altered_call(
     Ok(answer)
 }
 
-/// A call without alteration; a 19 that comes of an earlier alteration is mended with new stores.
+/// A call without alteration; a 19 that comes of an earlier alteration is mended with new stores: any sums that can be, or, where they take a
+/// pixel out of its word, those of a scan that was dark so far.
 fn plain_call(rng: &mut Rng, bench: &mut Bench, scan: &Scan) -> Result<Answer, String> {
     let next = Next::new(rng, scan);
     let answer = next.call(bench, scan)?;
@@ -157,7 +157,14 @@ fn plain_call(rng: &mut Rng, bench: &mut Bench, scan: &Scan) -> Result<Answer, S
     }
     fill(rng, bench, scan, next.arrival());
     let answer = next.call(bench, scan)?;
-    same("19 with stores that fit", &was_19(&answer), &false)?;
+    if !was_19(&answer) {
+        return Ok(answer);
+    }
+    let last = scan.table.count as u32;
+    same("19 with sums that can be", &answer.place, &last)?;
+    bench.start(&scan.table, scan.width)?;
+    let answer = next.call(bench, scan)?;
+    same("19 after a dark scan", &was_19(&answer), &false)?;
     Ok(answer)
 }
 

@@ -112,17 +112,6 @@ pub fn limits(rng: &mut Rng, tally: &mut Tally, _: u64) -> Outcome {
     holds("an accepted draft loads", pushes > 0 || number == 0)
 }
 
-/// The largest total weight × area on one side that question 10 lets pass.
-fn largest_total(table: &Table, positive: bool) -> i64 {
-    let end = 1i64 << (table.w - 1 + table.t);
-    let largest = i64::from(table::largest_sample(table));
-    if positive {
-        ((1i64 << table.t) * (1i64 << (table.w - 1)) - 1) / largest
-    } else {
-        end / largest
-    }
-}
-
 /// Rectangles of area 961 and 1 with a given total weight × area, at most 16 of them.
 fn rects_of_total(mut total: i64) -> Vec<Rect> {
     let square = |lead, trail, weight: i64| Rect {
@@ -144,30 +133,15 @@ fn rects_of_total(mut total: i64) -> Vec<Rect> {
 
 /// A table whose extreme on one side lies just within the word, or just past it.
 pub fn question_10(rng: &mut Rng, tally: &mut Tally, _: u64) -> Outcome {
-    let mut table = Table {
-        b: rng.range(1, 12) as u8,
-        w: rng.range(8, 32) as u8,
-        t: rng.range(0, 31) as u8,
-        ..Table::default()
-    };
+    let positive = rng.one_in(2);
+    let mut table = gen::head_for(rng, positive, 14 * 961 * 32_767);
     table.q1 = rng.range(0, i64::from(table.b) - 1) as u8;
     table.q2 = rng.range(0, 8) as u8;
-    let positive = rng.one_in(2);
-    while largest_total(&table, positive) > 14 * 961 * 32_767 {
-        if table.t > 0 {
-            table.t -= 1;
-        } else {
-            table.w -= 1;
-        }
-    }
-    while largest_total(&table, positive) < 2 {
-        table.w += 1;
-    }
     let past = rng.range(-1, 1);
-    let total = largest_total(&table, positive) + past;
+    let total = gen::largest_total(&table, positive) + past;
     let mut rects = rects_of_total(if positive { total } else { -total });
-    if rects.len() < 16 && rng.one_in(2) {
-        // A little on the other side, which has its own sum.
+    if rects.len() < 16 && !table::no_drops(&table) && rng.one_in(2) {
+        // A little on the other side, which with drops has its own sum.
         let weight = if positive { -1 } else { 1 };
         rects.push(Rect { weight, ..rects[0] });
     }
@@ -179,6 +153,63 @@ pub fn question_10(rng: &mut Rng, tally: &mut Tally, _: u64) -> Outcome {
         &number,
         &if past == 1 { 10 } else { 0 },
     )
+}
+
+/// What the weight grid makes of question 10.
+fn note_grid(tally: &mut Tally, table: &Table, number: u32) {
+    let by_grid = table::both_fit(table, table::grid_extremes(table));
+    let by_areas = table::both_fit(table, table::area_extremes(table));
+    tally.saw_if("10 only by the old rule", number == 0 && !by_areas);
+    if number == 10 && by_grid {
+        tally.saw("drops keep the old rule");
+        match (table.q1 > 0, table.q2 > 0, table.q3 > 0) {
+            (true, false, false) => tally.saw("q1 alone keeps the old rule"),
+            (false, true, false) => tally.saw("q2 alone keeps the old rule"),
+            (false, false, true) => tally.saw("q3 alone keeps the old rule"),
+            _ => {}
+        }
+    }
+}
+
+/// A table whose weights cancel and whose grid lies just within the word on one side, or just past it; with drops the grid is not asked.
+pub fn grid_edge(rng: &mut Rng, tally: &mut Tally, _: u64) -> Outcome {
+    let (positive, past) = (rng.one_in(2), rng.range(-1, 1));
+    let mut table = gen::ringed(rng, positive, past);
+    let number = ask(tally, &table::file_of(&table))?;
+    note_grid(tally, &table, number);
+    let expected = if past == 1 { 10 } else { 0 };
+    same("question 10 at the grid's edge", &number, &expected)?;
+    match (past, positive) {
+        (0, true) => tally.saw("grid: 10 just passed, high"),
+        (0, false) => tally.saw("grid: 10 just passed, low"),
+        (1, true) => tally.saw("grid: 10 just missed, high"),
+        (1, false) => tally.saw("grid: 10 just missed, low"),
+        _ => {}
+    }
+    gen::some_drops(rng, &mut table);
+    let number = ask(tally, &table::file_of(&table))?;
+    note_grid(tally, &table, number);
+    // The areas add up to more than the grid.
+    holds("10 with drops", number == 10 || past < 0)
+}
+
+/// A table whose weights cancel, in a word as short as it can be, one bit shorter and one longer; the same with drops.
+pub fn grid_words(rng: &mut Rng, tally: &mut Tally, _: u64) -> Outcome {
+    let count = rng.below(16) + 1;
+    let mut table = gen::cancelling(rng, count);
+    if rng.one_in(4) {
+        gen::some_drops(rng, &mut table);
+        table.w = gen::least_word(&table).min(32);
+    }
+    let least = gen::least_word(&table);
+    for w in (least - 1).max(8)..=(least + 1).min(32) {
+        table.w = w;
+        let number = ask(tally, &table::file_of(&table))?;
+        note_grid(tally, &table, number);
+        let expected = if w < least { 10 } else { 0 };
+        same("question 10 by the word", &number, &expected)?;
+    }
+    Ok(())
 }
 
 /// One place of a file damaged.

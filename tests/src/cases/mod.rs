@@ -4,12 +4,14 @@ mod altered;
 mod bursts;
 mod files;
 mod long;
+mod peaks;
 mod pixels;
 mod ranks;
 mod scans;
 mod states;
 mod strips;
 mod values;
+mod words;
 
 use crate::rng::Rng;
 use crate::tally::{Outcome, Tally};
@@ -30,19 +32,23 @@ const fn kind(
 }
 
 /// Cases are numbered through in this order.
-pub const KINDS: [Kind; 19] = [
+pub const KINDS: [Kind; 23] = [
     kind("strips of the paper", strips::COUNT, strips::case),
     kind("files at the limits", 60_000, files::limits),
     kind("files at question 10", 10_000, files::question_10),
+    kind("files at the grid's edge", 10_000, files::grid_edge),
+    kind("files at the grid's word", 4_000, files::grid_words),
     kind("damaged files", 60_000, files::damaged),
     kind("files cut at every byte", 1_000, files::truncated),
     kind("tables by value", 40_000, values::written),
     kind("starts", 15_000, values::started),
     kind("pixels", 40_000, pixels::case),
     kind("pixels of tall scans", 40, pixels::tall),
+    kind("peaks of the grid", 1_500, peaks::case),
     kind("scans", 30_000, scans::small),
     kind("scans of wide rows", 300, scans::wide),
     kind("altered stores", 20_000, altered::case),
+    kind("altered stores at the word", 8_000, words::case),
     kind("bursts of rows", 20_000, bursts::case),
     kind("states by hand", 30_000, states::any),
     kind("states near the last row", 4_000, states::near_the_end),

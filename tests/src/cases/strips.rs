@@ -1,7 +1,7 @@
-//! The strips of the paper, with the numbers that the paper gives; those of the ranked window are worked out by hand.
+//! The strips of the paper, with the numbers that the paper gives; those of the ranked window and of altered sums are worked out by hand.
 
 use crate::engine;
-use crate::ffi::{self, Rank, Rect, Table, Window, DONE, ROW, WAITING};
+use crate::ffi::{self, Answer, Rank, Rect, Table, Window, DONE, REFUSED, ROW, WAITING};
 use crate::pixel;
 use crate::rng::Rng;
 use crate::table;
@@ -11,9 +11,11 @@ use crate::world::Bench;
 
 type Strip = fn(&mut Rng, &mut Tally) -> Outcome;
 
-const STRIPS: [Strip; 13] = [
+const STRIPS: [Strip; 15] = [
     table_a_pixels,
     table_a_words,
+    surround,
+    pixel_past_word,
     drops,
     row_ends,
     short_files,
@@ -81,10 +83,82 @@ fn table_a_pixels(rng: &mut Rng, tally: &mut Tally) -> Outcome {
 
 fn table_a_words(_: &mut Rng, _: &mut Tally) -> Outcome {
     let mut bytes = TABLE_A;
-    bytes[8] = 11;
-    load_says("Table A with w = 11", &bytes, 0)?;
+    for (w, number) in [(11, 0), (10, 0), (9, 10)] {
+        bytes[8] = w;
+        load_says(&format!("Table A with w = {w}"), &bytes, number)?;
+    }
     bytes[8] = 10;
-    load_says("Table A with w = 10", &bytes, 10)
+    let a = ffi::table_load(&bytes).table;
+    let mut scan = [255; 9];
+    scan[4] = 0;
+    pixel_is("bright around", &a, 3, &scan, (1, 1), 510)?;
+    scan = [0; 9];
+    scan[4] = 255;
+    pixel_is("bright centre", &a, 3, &scan, (1, 1), -510)
+}
+
+/// A square of 31 by 31 against one of 29 by 29: 255 × 60 × 120 = 1,836,000 needs 22 bits. With drops it needs 25.
+fn surround(_: &mut Rng, _: &mut Tally) -> Outcome {
+    let mut rects = [
+        single(15, -16, [0; 3]).rects[0],
+        single(14, -15, [0; 3]).rects[0],
+    ];
+    rects[0].weight = 60;
+    rects[1].weight = -60;
+    for (q1, w, number) in [
+        (0, 22, 0),
+        (0, 21, 10),
+        (1, 22, 10),
+        (1, 24, 10),
+        (1, 25, 0),
+    ] {
+        let what = format!("31 by 31 against 29 by 29, q1 = {q1}, w = {w}");
+        load_says(&what, &table::file([8, q1, 0, 0, 0, w], &rects), number)?;
+    }
+    Ok(())
+}
+
+/// Table A in 10 bits and a dark scan; sums are altered within their bounds, 765 and 255. Of the wide square 2,047 / 4 fits and 2,048 / 4 does
+/// not; of the centre 227 × 9 / 4 fits and 228 × 9 / 4 does not.
+fn pixel_past_word(rng: &mut Rng, tally: &mut Tally) -> Outcome {
+    let mut a = ffi::table_load(&TABLE_A).table;
+    a.w = 10;
+    let dark = [0; 9];
+    let past = (REFUSED, 19, 2);
+    let said = |answer: Answer| (answer.kind, answer.number, answer.place);
+    let mut bench = Bench::with_rows(rng, tally, a.count, 3, 3);
+    let begun = |bench: &mut Bench, sums: [u32; 6]| {
+        let scan = bench.start(&a, 3)?.scan;
+        for (index, sum) in sums.into_iter().enumerate() {
+            bench.set_sum(index, sum);
+        }
+        Ok::<_, String>(scan)
+    };
+    let scan = begun(&mut bench, [765, 765, 518, 0, 0, 0])?;
+    let burst = bench.rows(&scan, &dark)?;
+    let found = (burst.refusal, burst.place, burst.taken, burst.filtered);
+    same("past the word in a burst", &found, &(19, 2, 1, 0))?;
+    let scan = begun(&mut bench, [765, 765, 518, 0, 0, 0])?;
+    let waiting = bench.row(&scan, &dark[..3])?;
+    same("while waiting", &said(waiting), &(WAITING, 0, 0))?;
+    let open = waiting.scan;
+    let answer = bench.row(&open, &dark[..3])?;
+    same("past the word in a row", &said(answer), &past)?;
+    let closed = bench.close(&open)?.scan;
+    let answer = bench.step(&closed)?;
+    same("past the word in a step", &said(answer), &past)?;
+    bench.set_sum(2, 517);
+    let answer = bench.step(&closed)?;
+    same("within the word in a step", &said(answer), &(ROW, 0, 0))?;
+    same("its pixels", &bench.output()[..3], &[382, 511, 320])?;
+    let scan = begun(&mut bench, [0, 0, 0, 0, 228, 0])?;
+    let open = bench.row(&scan, &dark[..3])?.scan;
+    let answer = bench.row(&open, &dark[..3])?;
+    same("below the word in a row", &said(answer), &past)?;
+    bench.set_sum(4, 227);
+    let answer = bench.row(&open, &dark[..3])?;
+    same("within the word in a row", &said(answer), &(ROW, 0, 0))?;
+    same("its pixels", &bench.output()[..3], &[0, -511, 0])
 }
 
 /// One rectangle of weight 1 under b = 8, t = 0 and w = 32.
