@@ -4,7 +4,8 @@
    tuned      column sums of all rectangles, zero margins, four sliding windows a pass; no shift where nothing is dropped
    direct     every covered sample added afresh for each pixel
    bench                        all figures
-   bench LOOP RECTS DROPS ROWS  one loop once, for instruction counts; DROPS as in 230 */
+   bench LOOP RECTS DROPS ROWS  one loop once, for instruction counts; DROPS as in 230, or for weights that cancel wide, grid,
+                                nested-wide or nested-grid */
 #include "strip.h"
 #include <stdbool.h>
 #include <stdint.h>
@@ -42,6 +43,21 @@ static strip_table make_table(size_t rects, int drops, int half)
         }
         t.rects[k] = r;
     }
+    return t;
+}
+
+/* weights that cancel, no drops: in a wide word, or in one that only the weight grid finds wide enough. Nested, each rectangle lies
+   one sample inside the one before, so that no two lines of the grid are alike */
+static strip_table cancelling(size_t rects, bool nested, bool wide)
+{
+    strip_table t = make_table(rects, 0, 7);
+    for (size_t k = 0; k < rects; k++) {
+        int lead = 15 - (int)k, trail = -16 + (int)k;
+        if (nested)
+            t.rects[k] = (strip_rect){(int8_t)lead, (int8_t)lead, (int8_t)trail, (int8_t)trail, 0};
+        t.rects[k].weight = k % 2 ? -31 : 31;
+    }
+    t.w = wide ? 32 : nested ? 19 : 17;
     return t;
 }
 
@@ -194,6 +210,7 @@ static void engine_row(filter *f, const uint16_t *row)
 }
 
 #ifdef BEFORE
+strip_started old_strip_scan_close(strip_scan);
 strip_answer old_strip_scan_row(strip_scan, const uint16_t *, size_t, uint16_t *, size_t, uint32_t *, size_t, int32_t *, size_t);
 
 static void before_row(filter *f, const uint16_t *row)
@@ -220,6 +237,17 @@ static const loop loops[] = {
 };
 
 enum { LOOPS = sizeof loops / sizeof *loops, TUNED = LOOPS - 3, TIMED = LOOPS - 1, TIMES = 40 };
+
+/* the library before may refuse a table that this one accepts by the weight grid */
+static bool takes(loop l, strip_table t, size_t width)
+{
+#ifdef BEFORE
+    if (l.row == before_row)
+        return !old_strip_scan_close((strip_scan){.table = t, .width = width}).refusal;
+#endif
+    (void)l, (void)t, (void)width;
+    return true;
+}
 
 static const int drops[] = {0, 111, 230};
 
@@ -256,7 +284,8 @@ static double run(loop l, strip_table t, size_t width, int n)
     return (double)(b.tv_sec - a.tv_sec) + (double)(b.tv_nsec - a.tv_nsec) * 1e-9;
 }
 
-/* ns per sample and rectangle of the first n loops: the best of several scans, run in turn; all must give the same pixels */
+/* ns per sample and rectangle of the first n loops, -1 of one that does not take the table: the best of several scans, run in turn; all
+   must give the same pixels */
 static void best(double *ns, int n, strip_table t, size_t width, int rows_each, int times)
 {
     uint64_t seen = 0;
@@ -264,6 +293,10 @@ static void best(double *ns, int n, strip_table t, size_t width, int rows_each, 
         ns[i] = 1e9;
     for (int turn = 0; turn < times; turn++)
         for (int i = 0; i < n; i++) {
+            if (!takes(loops[i], t, width)) {
+                ns[i] = -1;
+                continue;
+            }
             double s = run(loops[i], t, width, rows_each) * 1e9 / ((double)rows_each * (double)width * (double)t.count);
             ns[i] = s < ns[i] ? s : ns[i];
             seen = i ? seen : checksum;
@@ -285,7 +318,10 @@ static void names(int n)
 static void line(double *ns, int n)
 {
     for (int i = 0; i < n; i++)
-        printf("%10.2f", ns[i]);
+        if (ns[i] < 0)
+            printf("%10s", "-");
+        else
+            printf("%10.2f", ns[i]);
     printf("%18.2f\n", ns[0] / ns[TUNED]);
 }
 
@@ -297,9 +333,12 @@ int main(int argc, char **argv)
         for (int c = 0; c < WIDTH; c++)
             rows[r][c] = (uint16_t)(rand() & 4095);
     if (argc == 5) {
+        size_t rects = (size_t)atoi(argv[2]);
+        bool nested = !strncmp(argv[3], "nested", 6), wide = strstr(argv[3], "wide"), grid = strstr(argv[3], "grid");
+        strip_table t = wide || grid ? cancelling(rects, nested, wide) : make_table(rects, atoi(argv[3]), 7);
         for (int i = 0; i < LOOPS; i++)
             if (!strcmp(argv[1], loops[i].name))
-                run(loops[i], make_table((size_t)atoi(argv[2]), atoi(argv[3]), 7), WIDTH, atoi(argv[4]));
+                run(loops[i], t, WIDTH, atoi(argv[4]));
         return 0;
     }
     printf("ns per sample and rectangle, %d columns, the best of %d scans\n", WIDTH, TIMES);
@@ -332,6 +371,22 @@ int main(int argc, char **argv)
         printf("1024 columns, 16 of %2d by %2d", 2 * half + 1, 2 * half + 1);
         best(ns, TIMED, make_table(16, 0, half), WIDTH, 50, TIMES);
         line(ns, TIMED);
+    }
+    printf("\nns per sample and rectangle, weights that cancel: in the short word question 10 has to look at the weight grid\n");
+    names(TIMED);
+    for (int kind = 0; kind < 3; kind++) {
+        size_t rects = kind ? 16 : 2;
+        bool nested = kind == 2;
+        double in_wide = 0;
+        for (int wide = 1; wide >= 0; wide--) {
+            strip_table t = cancelling(rects, nested, wide);
+            printf("%2d %s, w = %2d     ", (int)rects, nested ? "nested    " : "rectangles", t.w);
+            best(ns, TIMED, t, WIDTH, 800 / (int)rects, TIMES);
+            line(ns, TIMED);
+            if (wide)
+                in_wide = ns[0];
+        }
+        printf("more for the grid: %.0f ns a row\n", (ns[0] - in_wide) * WIDTH * (double)rects);
     }
     return 0;
 }

@@ -33,6 +33,15 @@ if command -v valgrind >/dev/null 2>&1; then
         done
     done
     echo
+    echo "instructions a row that the weight grid and the word test take, 2 and 16 rectangles and 16 nested"
+    for kind in "2 " "16 " "16 nested-"; do
+        for word in wide grid; do
+            for rows in 40 140; do
+                counts build/bench engine ${kind% *} ${kind#* }$word $rows
+            done
+        done | paste -s - | awk '{ printf "%.0f\n", ($4 - $3 - $2 + $1) / 100 }'
+    done | paste -s - | awk '{ printf "%-19s%8d%8d%8d\n", "engine", $1, $2, $3 }'
+    echo
     echo "instructions per pixel of the ranked window, 1024 columns, squares of 3, 15 and 31"
     for loop in library stores fixed huang; do
         for bits in 8 6; do

@@ -76,9 +76,10 @@ static size_t depth(void *(*work)(void *))
     return STACK - untouched;
 }
 
-static void measure(const char *name, size_t width, int16_t weight)
+/* w: the pixel word; in one of 8 bits, without drops, the weight grid is asked, where all weights cancel */
+static void measure(const char *name, size_t width, int16_t weight, uint8_t w)
 {
-    strip_table t = {.b = 12, .q3 = 1, .t = 16, .w = 32, .count = STRIP_RECTS};
+    strip_table t = {.b = 12, .q3 = w > 8, .t = 16, .w = w, .count = STRIP_RECTS};
     for (size_t k = 0; k < t.count; k++)
         t.rects[k] = (strip_rect){15, 15, -16, -16, (int16_t)(k % 2 ? -weight : weight)};
     strip_started s = strip_scan_start(t, width, samples, STRIP_SAMPLES(width), sums, STRIP_SUMS(t.count, width));
@@ -95,8 +96,11 @@ static void measure(const char *name, size_t width, int16_t weight)
 int main(void)
 {
     printf("bytes of stack%-22s%16s%16s%16s\n", "", "strip_scan_row", "strip_scan_rows", "strip_scan_step");
-    measure("values of 32 bits, 256 columns", 256, 30);
-    measure("values of 32 bits, 1024 columns", 1024, 30);
-    measure("values of 64 bits, 1024 columns", 1024, 30000);
+    measure("values of 32 bits, 256 columns", 256, 30, 32);
+    measure("values of 32 bits, 1024 columns", 1024, 30, 32);
+    measure("values of 64 bits, 1024 columns", 1024, 30000, 32);
+#ifndef BEFORE
+    measure("by the weight grid, 1024 columns", 1024, 30, 8);
+#endif
     return 0;
 }
