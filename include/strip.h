@@ -73,7 +73,8 @@ typedef enum {
     STRIP_NO_FIELD = 7,        /* a further field does not begin with 02 00 06 */
     STRIP_EDGES = 8,           /* a lead outside -15 to 15, a trail outside -16 to 14, or a trail not below its lead */
     STRIP_NO_RECT = 9,         /* no rectangle */
-    STRIP_EXTREMES = 10,       /* the largest or the smallest value does not fit the pixel word */
+    STRIP_EXTREMES = 10,       /* the largest or the smallest value does not fit the pixel word: without drops by the weight grid, so that
+                                  some scan has such a pixel; with drops by the rectangles one by one */
 
     /* tables, widths, arrays */
     STRIP_TABLE = 11,          /* not a table that loading accepts */
@@ -86,8 +87,9 @@ typedef enum {
     STRIP_FULL = 16,           /* 65,535 rows are in */
     STRIP_LENGTH = 17,         /* the row has not `width` samples; of strip_pixel: the length is not width times 1 to 65,535 */
     STRIP_SAMPLE = 18,         /* a sample is above 2^b - 1 and not STRIP_DEAD; place: the lowest index of one */
-    STRIP_SUM = 19,            /* a column sum that cannot be: a store was altered between calls; place: the lowest rectangle, from 0; of a
-                                  ranked scan: a kept sample or a column count that cannot be; place: 0 */
+    STRIP_SUM = 19,            /* a column sum that cannot be: a store was altered between calls; place: the lowest rectangle, from 0;
+                                  place the number of rectangles: a pixel due does not fit the word; of a ranked scan: a kept sample or a
+                                  column count that cannot be; place: 0 */
     STRIP_OUTSIDE = 20,        /* row or column outside the scan */
     STRIP_NOT_ROWS = 21,       /* the samples handed over together are not whole rows: their number is no multiple of `width` */
 
