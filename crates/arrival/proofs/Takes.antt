@@ -42,10 +42,11 @@ module _ (v : Arrival) (out : List ℤ) where
   unfolding takeOf arrivalAsks
   taken-in g e = rw (true-of (all (v .table .count) asked) g, e) refl
 
-  -- with the row kept where it is accepted, it is the whole arrival
+  -- refused, all is as it was
   abbrev refusal : (number place : ℕ) → Leaves
   refusal number place = leaves (Refused number place) (v .samples) (v .sums) out
 
+  -- with the row kept where it is accepted, it is the whole arrival
   module _ {samples sums : List ℕ} {out′ : List ℤ} where
     pub arrival-refused : {r : Verdict} {n p : ℕ} → r ≡ Refused n p → leaves r samples sums out′ ≡ takeOf v out
         → leaves (Refused n p) samples sums out′ ≡ arriveOf v out
