@@ -13,6 +13,7 @@ use layout::Table;
 use layout::Verdict;
 use layout::delay;
 use limits::extremes_fit;
+use passes::BIAS;
 use ring::keep;
 
 // Question 13, on the lengths of the stores.
@@ -143,7 +144,7 @@ fn take_wide<'a>(
         ≡ takeOf (arriving t width arrival (now (row .entry)) (now (samples .entry)) (now (sums .entry))) (now (out .entry)) ⌝ }
 {
     let mut acc = [0u32; 1];
-    let mut wide = [2199023255552u64; 1024];
+    let mut wide = [BIAS; 1024];
     let mut line = [0u32; 1072];
     let zeros = [0u16; 1024];
     take(

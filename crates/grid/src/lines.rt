@@ -13,14 +13,20 @@ use arith::monus;
 use layout::Rect;
 use layout::Table;
 
-// Adds a weight, raised by 32768, to the entries from `start` to `end` - 1.
+// 2^25: a difference, and an entry, is held raised by it.
+const BIAS: u32 = 33554432;
+
+// 2^15: a weight is handed over raised by it.
+const WEIGHT_BIAS: u32 = 32768;
+
+// Adds a weight, raised by WEIGHT_BIAS, to the entries from `start` to `end` - 1.
 fn add_between(deltas: &mut [u32], start: usize, end: usize, weight: u32)
     requires { ⌜ (start < end) × (end < 32) × (weight < 65536) ⌝ }
     requires { ⌜ DeltasFit (now deltas) ⌝ }
     ensures { λ _. ⌜ Raised start end weight (now (deltas .entry)) (now (deltas .exit)) ⌝ }
 {
-    deltas[start] = deltas[start] + weight - 32768;
-    deltas[end] = deltas[end] + 32768 - weight;
+    deltas[start] = deltas[start] + weight - WEIGHT_BIAS;
+    deltas[end] = deltas[end] + WEIGHT_BIAS - weight;
 }
 
 // Adds a rectangle to the differences of line a.
@@ -63,14 +69,14 @@ fn entry_sums(deltas: &[u32]) -> PartSums
     ensures { λ e. ⌜ e .low ≡ sum 31 (λ b. suc b * deltaBias - upTo (now (deltas .entry)) b) ⌝ }
     ensures { λ e. ⌜ (e .high ≤ lineMost) × (e .low ≤ lineMost) ⌝ }
 {
-    let mut entry: u32 = 33554432;
+    let mut entry: u32 = BIAS;
     let mut high: u32 = 0;
     let mut low: u32 = 0;
     let mut b = 0;
     while b < 31 {
-        entry = entry + deltas[b] - 33554432;
-        high += monus(entry, 33554432);
-        low += monus(33554432, entry);
+        entry = entry + deltas[b] - BIAS;
+        high += monus(entry, BIAS);
+        low += monus(BIAS, entry);
         b += 1;
     }
     PartSums {
@@ -85,7 +91,7 @@ pub fn line_sums(t: Table, a: u32) -> PartSums
     requires { ⌜ a < 31 ⌝ }
     ensures { λ e. ⌜ LineSums t a e ⌝ }
 {
-    let mut deltas = [33554432u32; 32];
+    let mut deltas = [BIAS; 32];
     add_rects(&mut deltas, t, a);
     entry_sums(&deltas)
 }

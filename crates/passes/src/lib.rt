@@ -16,3 +16,6 @@ pub use values::accumulate;
 pub use values::weigh;
 pub use words::fit_narrow;
 pub use words::fit_wide;
+
+// 2^41: a value of 64 bits is held raised by it, so that no pass has a signed number.
+pub const BIAS: u64 = 2199023255552;

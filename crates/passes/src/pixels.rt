@@ -5,6 +5,7 @@ ghost use lib.ListN.{length, getD, drop};
 ghost use Rattle.arith.specs.Tab.{tab};
 ghost use Rattle.arith.specs.Twos.{signed};
 ghost use Rattle.passes.specs.Passes.{rounded, roundedWord, RoundFits, WriteFits, WriteWideFits};
+use crate::BIAS;
 use arith::floor_shift;
 
 // The signed number of a word of 32 bits.
@@ -30,12 +31,12 @@ pub fn write_narrow(out: &mut [i32], acc: &[u32], width: usize, shift: u8)
     }
 }
 
-// A value without its bias of 2^41, divided by 2^shift and rounded down.
+// A value without its bias, divided by 2^shift and rounded down.
 fn round_wide(value: u64, shift: u8) -> i32
     requires { ⌜ RoundFits value shift ⌝ }
     ensures { λ p. ⌜ p ≡ rounded value shift ⌝ }
 {
-    floor_shift(value as i64 - 2199023255552, shift) as i32
+    floor_shift(value as i64 - BIAS as i64, shift) as i32
 }
 
 // The pixels of values of 64 bits into the first places of the output.

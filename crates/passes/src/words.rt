@@ -5,6 +5,7 @@ ghost use lib.ListN.{length, getD};
 ghost use Rattle.arith.specs.All.{all};
 ghost use Rattle.arith.specs.Twos.{fitsSigned};
 ghost use Rattle.passes.specs.Passes.{rounded, roundedWord, NarrowWords, WideWords};
+use crate::BIAS;
 use std::num::wrapping_add_u32;
 use std::num::wrapping_add_u64;
 use std::num::wrapping_sub_u64;
@@ -34,7 +35,7 @@ pub fn fit_wide(acc: &[u64], n: usize, shift: u8, word: u8) -> bool
     ensures { λ g. ⌜ g ≡ all n (λ c. fitsSigned word (rounded (getD (now (acc .entry)) c 0) shift)) ⌝ }
 {
     let half: u64 = 1 << (word + shift - 1);
-    let raise = wrapping_sub_u64(half, 2199023255552);
+    let raise = wrapping_sub_u64(half, BIAS);
     let mut seen: u64 = 0;
     let mut c = 0;
     while c < n {

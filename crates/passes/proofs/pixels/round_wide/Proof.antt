@@ -29,6 +29,9 @@ same c = toZ-ofZ (record { sfits = c .floor-shift .ok })
 cast-floor-shift : tie.Need-cast-floor-shift
 cast-floor-shift c = search needs
 
+cast-floor-shift-2 : tie.Need-cast-floor-shift-2
+cast-floor-shift-2 c = search needs
+
 sub-floor-shift : tie.Need-sub-floor-shift
 sub-floor-shift c = sub-fits (c .args .value) bias (low c) (lit< tt)
 
@@ -44,4 +47,4 @@ returns c = toZ-ofZ (cast-result c) ∙ same c ∙ quotient c
 
 pub round-wide-spec : {M : Type 1} → statement M
 round-wide-spec =
-    tie.close (tie.spec cast-floor-shift sub-floor-shift floor-shift-requires cast-result returns)
+    tie.close (tie.spec cast-floor-shift cast-floor-shift-2 sub-floor-shift floor-shift-requires cast-result returns)
