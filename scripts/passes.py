@@ -13,9 +13,9 @@ import re
 import subprocess
 import sys
 
-CRATES = ["arith", "ring", "rule", "passes", "arrival", "scan", "levels", "histograms", "rank"]
+CRATES = ["arith", "ring", "rule", "passes", "arrival", "engine", "scan", "levels", "histograms", "rank"]
 # loops over rectangles: each finds the rows that its edges reach, then runs passes
-OVER_RECTANGLES = {"arrival::rows::values", "arrival::rows::roll_back_first"}
+OVER_RECTANGLES = {"engine::rows::values", "engine::rows::roll_back_first"}
 ROOT = os.path.dirname(os.path.dirname(os.path.abspath(__file__)))
 
 

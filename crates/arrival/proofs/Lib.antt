@@ -6,12 +6,6 @@ pub mod Places
 pub mod Fitted
 pub mod Reaches
 pub mod Written
-pub mod Biased
-pub mod Starts
-pub mod Pixels
-pub mod Takes
-pub mod Theorems
-pub mod Shares
 pub mod Delays
 pub mod Carries
 pub mod Columns

@@ -1,3 +1,2 @@
 pub mod Arrivals
 pub mod Rectangles
-pub mod Words

@@ -11,7 +11,7 @@ use crate::Scan;
 use crate::state::lent_good;
 use crate::state::state_good;
 use arith::power;
-use arrival::arrive;
+use engine::arrive;
 use layout::Answer;
 use layout::Table;
 use layout::Verdict;

@@ -7,7 +7,7 @@ use crate::Scan;
 use crate::Stepped;
 use crate::state::lent_good;
 use crate::state::state_good;
-use arrival::arrive;
+use engine::arrive;
 use layout::Closing;
 use layout::Verdict;
 use layout::delay;
