@@ -1,7 +1,7 @@
 -- Starts a ranked scan and hands the answer out as C's struct: the start's equation, seen by C.
 -- Assumes nothing.
 use mathlib.Core.Path.{ap}
-use Rattle.capi.specs.Ranks.{startedC, leftC}
+use Rattle.cstructs.specs.Ranks.{startedC, leftC}
 use borrow.Author.Needs.{needs}
 use Rattle.capi.proofs.ranks.strip_rank_start.Statement.{statement}
 use Rattle.capi.proofs.ranks.strip_rank_start.Tie as tie
@@ -9,8 +9,8 @@ use Rattle.capi.proofs.ranks.strip_rank_start.Tie as tie
 start-requires : tie.Need-start-requires
 start-requires c κs = search needs
 
-started-requires : tie.Need-started-requires
-started-requires c κs = search needs
+rank-started-requires : tie.Need-rank-started-requires
+rank-started-requires c κs = search needs
 
 same-length : tie.Need-same-length
 same-length c = search needs
@@ -22,9 +22,9 @@ same-length-3 : tie.Need-same-length-3
 same-length-3 c = search needs
 
 returns : tie.Need-returns
-returns c = rw (c .started .ensures) (ap (leftC startedC) (c .before .before .before .before .before .before .before .start .ensures))
+returns c = rw (c .rank-started .ensures) (ap (leftC startedC) (c .before .before .before .before .before .before .before .start .ensures))
 
 pub strip-rank-start-spec : {M : Type 1} → statement M
 strip-rank-start-spec =
     tie.close
-    (tie.spec start-requires started-requires same-length same-length-2 same-length-3 returns)
+    (tie.spec start-requires rank-started-requires same-length same-length-2 same-length-3 returns)

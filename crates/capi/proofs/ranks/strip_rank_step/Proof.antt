@@ -1,7 +1,7 @@
 -- Does a closing step of a ranked scan and hands the answer out as C's struct: the step's equation, seen by C.
 -- Assumes nothing.
 use mathlib.Core.Path.{ap}
-use Rattle.capi.specs.Ranks.{answerC, leftC}
+use Rattle.cstructs.specs.Ranks.{answerC, leftC}
 use borrow.Author.Needs.{needs}
 use Rattle.capi.proofs.ranks.strip_rank_step.Statement.{statement}
 use Rattle.capi.proofs.ranks.strip_rank_step.Tie as tie
@@ -9,8 +9,8 @@ use Rattle.capi.proofs.ranks.strip_rank_step.Tie as tie
 step-requires : tie.Need-step-requires
 step-requires c κs = search needs
 
-stepped-requires : tie.Need-stepped-requires
-stepped-requires c κs = search needs
+rank-stepped-requires : tie.Need-rank-stepped-requires
+rank-stepped-requires c κs = search needs
 
 same-length : tie.Need-same-length
 same-length c = search needs
@@ -25,14 +25,14 @@ same-length-4 : tie.Need-same-length-4
 same-length-4 c = search needs
 
 returns : tie.Need-returns
-returns c = rw (c .stepped .ensures) (ap (leftC answerC) (c .before .before .before .before .before .before .before .before .step .ensures))
+returns c = rw (c .rank-stepped .ensures) (ap (leftC answerC) (c .before .before .before .before .before .before .before .before .step .ensures))
 
 pub strip-rank-step-spec : {M : Type 1} → statement M
 strip-rank-step-spec =
     tie.close
     (tie.spec
     step-requires
-    stepped-requires
+    rank-stepped-requires
     same-length
     same-length-2
     same-length-3

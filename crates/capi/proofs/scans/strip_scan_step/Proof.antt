@@ -1,7 +1,7 @@
 -- Does a closing step and hands the answer out as C's struct: the step's equation, seen by C.
 -- Assumes nothing.
 use mathlib.Core.Path.{ap}
-use Rattle.capi.specs.Answers.{answerC, leftC}
+use Rattle.cstructs.specs.Answers.{answerC, leftC}
 use borrow.Author.Needs.{needs}
 use Rattle.capi.proofs.scans.strip_scan_step.Statement.{statement}
 use Rattle.capi.proofs.scans.strip_scan_step.Tie as tie
@@ -9,8 +9,8 @@ use Rattle.capi.proofs.scans.strip_scan_step.Tie as tie
 step-requires : tie.Need-step-requires
 step-requires c κs = search needs
 
-stepped-requires : tie.Need-stepped-requires
-stepped-requires c κs = search needs
+scan-stepped-requires : tie.Need-scan-stepped-requires
+scan-stepped-requires c κs = search needs
 
 same-length : tie.Need-same-length
 same-length c = search needs
@@ -22,9 +22,9 @@ same-length-3 : tie.Need-same-length-3
 same-length-3 c = search needs
 
 returns : tie.Need-returns
-returns c = rw (c .stepped .ensures) (ap (leftC answerC) (c .before .before .before .before .before .before .step .ensures))
+returns c = rw (c .scan-stepped .ensures) (ap (leftC answerC) (c .before .before .before .before .before .before .step .ensures))
 
 pub strip-scan-step-spec : {M : Type 1} → statement M
 strip-scan-step-spec =
     tie.close
-    (tie.spec step-requires stepped-requires same-length same-length-2 same-length-3 returns)
+    (tie.spec step-requires scan-stepped-requires same-length same-length-2 same-length-3 returns)

@@ -12,12 +12,12 @@ use Rattle.table.specs.Format.{Handed as Loading}
 use Rattle.table.specs.Writing.{Wrote}
 use Rattle.scan.specs.declared.Scan.{Scan}
 use Rattle.scan.specs.Calls.{World}
-use Rattle.capi.specs.declared.tables.TableLoaded.{TableLoaded}
-use Rattle.capi.specs.declared.tables.TableWritten.{TableWritten}
-use Rattle.capi.specs.declared.scans.ScanStarted.{ScanStarted}
-use Rattle.capi.specs.declared.scans.ScanAnswer.{ScanAnswer}
-use Rattle.capi.specs.declared.bursts.BurstAnswer.{BurstAnswer}
-use Rattle.capi.specs.declared.pixels.PixelAnswer.{PixelAnswer}
+use Rattle.cstructs.specs.declared.tables.TableLoaded.{TableLoaded}
+use Rattle.cstructs.specs.declared.tables.TableWritten.{TableWritten}
+use Rattle.cstructs.specs.declared.scans.ScanStarted.{ScanStarted}
+use Rattle.cstructs.specs.declared.scans.ScanAnswer.{ScanAnswer}
+use Rattle.cstructs.specs.declared.bursts.BurstAnswer.{BurstAnswer}
+use Rattle.cstructs.specs.declared.pixels.PixelAnswer.{PixelAnswer}
 
 -- ---- an answer, from what a call says, whose number and place are 0 but for a refusal
 

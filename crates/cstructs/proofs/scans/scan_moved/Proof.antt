@@ -1,8 +1,8 @@
--- A closing step's answer and the scan after it as C's struct: each arm is the answer's own case.
+-- A row's answer and the scan after it as C's struct: each arm is the answer's own case.
 -- Assumes nothing.
 use borrow.Author.Needs.{needs}
-use Rattle.capi.proofs.scans.stepped.Statement.{statement}
-use Rattle.capi.proofs.scans.stepped.Tie as tie
+use Rattle.cstructs.proofs.scans.scan_moved.Statement.{statement}
+use Rattle.cstructs.proofs.scans.scan_moved.Tie as tie
 
 enum-known-a : tie.Need-enum-known-a
 enum-known-a c = search needs
@@ -22,12 +22,6 @@ enum-told c = search needs
 answer-of-requires-3 : tie.Need-answer-of-requires-3
 answer-of-requires-3 c κs = search needs
 
-enum-told-2 : tie.Need-enum-told-2
-enum-told-2 c = search needs
-
-answer-of-requires-4 : tie.Need-answer-of-requires-4
-answer-of-requires-4 c κs = search needs
-
 returns : tie.Need-returns
 returns c = rw (c .before .before .a .given .1) (c .answer-of .ensures)
 
@@ -37,11 +31,8 @@ returns-2 c = rw (c .before .before .a2 .given .1) (c .answer-of2 .ensures)
 returns-3 : tie.Need-returns-3
 returns-3 c = rw (c .before .enum-told .given .1) (c .answer-of3 .ensures)
 
-returns-4 : tie.Need-returns-4
-returns-4 c = rw (c .before .enum-told2 .given .1) (c .answer-of4 .ensures)
-
-pub stepped-spec : {M : Type 1} → statement M
-stepped-spec =
+pub scan-moved-spec : {M : Type 1} → statement M
+scan-moved-spec =
     tie.close
     (tie.spec
     enum-known-a
@@ -50,9 +41,6 @@ stepped-spec =
     answer-of-requires-2
     enum-told
     answer-of-requires-3
-    enum-told-2
-    answer-of-requires-4
     returns
     returns-2
-    returns-3
-    returns-4)
+    returns-3)

@@ -1,8 +1,8 @@
 -- A closing step's answer and the scan after it as C's struct: each arm is the answer's own case.
 -- Assumes nothing.
 use borrow.Author.Needs.{needs}
-use Rattle.capi.proofs.ranks.stepped.Statement.{statement}
-use Rattle.capi.proofs.ranks.stepped.Tie as tie
+use Rattle.cstructs.proofs.scans.scan_stepped.Statement.{statement}
+use Rattle.cstructs.proofs.scans.scan_stepped.Tie as tie
 
 enum-known-a : tie.Need-enum-known-a
 enum-known-a c = search needs
@@ -40,8 +40,8 @@ returns-3 c = rw (c .before .enum-told .given .1) (c .answer-of3 .ensures)
 returns-4 : tie.Need-returns-4
 returns-4 c = rw (c .before .enum-told2 .given .1) (c .answer-of4 .ensures)
 
-pub stepped-spec : {M : Type 1} → statement M
-stepped-spec =
+pub scan-stepped-spec : {M : Type 1} → statement M
+scan-stepped-spec =
     tie.close
     (tie.spec
     enum-known-a

@@ -1,8 +1,8 @@
 -- A burst's verdict, counts and scan as C's struct: each arm is the verdict's own case.
 -- Assumes nothing.
 use borrow.Author.Needs.{needs}
-use Rattle.capi.proofs.bursts.counted.Statement.{statement}
-use Rattle.capi.proofs.bursts.counted.Tie as tie
+use Rattle.cstructs.proofs.bursts.burst_counted.Statement.{statement}
+use Rattle.cstructs.proofs.bursts.burst_counted.Tie as tie
 
 enum-known-v : tie.Need-enum-known-v
 enum-known-v c = search needs
@@ -22,7 +22,7 @@ returns c = rw (c .before .before .v .given .1) (c .burst-of .ensures)
 returns-2 : tie.Need-returns-2
 returns-2 c = rw (c .before .enum-told .given .1) (c .burst-of2 .ensures)
 
-pub counted-spec : {M : Type 1} → statement M
-counted-spec =
+pub burst-counted-spec : {M : Type 1} → statement M
+burst-counted-spec =
     tie.close
     (tie.spec enum-known-v burst-of-requires enum-told burst-of-requires-2 returns returns-2)

@@ -1,8 +1,8 @@
 -- A row's answer and the scan after it as C's struct: each arm is the answer's own case.
 -- Assumes nothing.
 use borrow.Author.Needs.{needs}
-use Rattle.capi.proofs.scans.moved.Statement.{statement}
-use Rattle.capi.proofs.scans.moved.Tie as tie
+use Rattle.cstructs.proofs.ranks.rank_moved.Statement.{statement}
+use Rattle.cstructs.proofs.ranks.rank_moved.Tie as tie
 
 enum-known-a : tie.Need-enum-known-a
 enum-known-a c = search needs
@@ -31,8 +31,8 @@ returns-2 c = rw (c .before .before .a2 .given .1) (c .answer-of2 .ensures)
 returns-3 : tie.Need-returns-3
 returns-3 c = rw (c .before .enum-told .given .1) (c .answer-of3 .ensures)
 
-pub moved-spec : {M : Type 1} → statement M
-moved-spec =
+pub rank-moved-spec : {M : Type 1} → statement M
+rank-moved-spec =
     tie.close
     (tie.spec
     enum-known-a

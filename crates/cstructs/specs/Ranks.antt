@@ -8,9 +8,9 @@ use lib.IntN.{ℤ}
 use Rattle.layout.specs.Answers.{Said, Left}
 use Rattle.rank.specs.declared.RankScan.{RankScan}
 use Rattle.rank.specs.Calls.{World}
-use Rattle.capi.specs.declared.ranks.RankStarted.{RankStarted}
-use Rattle.capi.specs.declared.ranks.RankAnswer.{RankAnswer}
-use Rattle.capi.specs.Answers.{amount}
+use Rattle.cstructs.specs.declared.ranks.RankStarted.{RankStarted}
+use Rattle.cstructs.specs.declared.ranks.RankAnswer.{RankAnswer}
+use Rattle.cstructs.specs.Answers.{amount}
 
 -- a start or a close, and the scan after it
 abbrev pub startedC : Said → RankScan → RankStarted
