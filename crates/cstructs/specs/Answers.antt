@@ -12,6 +12,8 @@ use Rattle.table.specs.Format.{Handed as Loading}
 use Rattle.table.specs.Writing.{Wrote}
 use Rattle.scan.specs.declared.Scan.{Scan}
 use Rattle.scan.specs.Calls.{World}
+use Rattle.cstructs.specs.declared.answers.Refusal.{Refusal}
+use Rattle.cstructs.specs.declared.answers.Head.{Head}
 use Rattle.cstructs.specs.declared.tables.TableLoaded.{TableLoaded}
 use Rattle.cstructs.specs.declared.tables.TableWritten.{TableWritten}
 use Rattle.cstructs.specs.declared.scans.ScanStarted.{ScanStarted}
@@ -27,6 +29,14 @@ value s k = getD (s .values) k (pos 0)
 
 abbrev pub amount : Said → (k : ℕ) → ℕ
 amount s k = posPart (value s k)
+
+-- the number and the place of a refusal
+abbrev pub refusalC : Said → Refusal
+refusalC s = record { number = s .number; place = s .place }
+
+-- the kind, number and place of a row or a closing step: a filtered row has the row's number where a refusal has the question's
+abbrev pub headC : Said → Head
+headC s = record { kind = s .kind; number = cond (eqb (s .kind) 1) (amount s 0) (s .number); place = s .place }
 
 -- a file that was loaded, and its table
 abbrev pub loadedC : Loading → TableLoaded
@@ -44,9 +54,9 @@ pixelC s = record { refusal = s .number; place = s .place; value = value s 0 }
 abbrev pub startedC : Said → Scan → ScanStarted
 startedC s scan = record { refusal = s .number; place = s .place; scan = scan }
 
--- a row or a closing step, and the scan after it: a filtered row has the row's number where a refusal has the question's
+-- a row or a closing step, and the scan after it
 abbrev pub answerC : Said → Scan → ScanAnswer
-answerC s scan = record { kind = s .kind; number = cond (eqb (s .kind) 1) (amount s 0) (s .number); place = s .place; scan = scan }
+answerC s scan = let h = headC s in record { kind = h .kind; number = h .number; place = h .place; scan = scan }
 
 -- a burst, with the rows taken and the filtered rows that came out, and the scan after it
 abbrev pub burstC : Said → Scan → BurstAnswer

@@ -1,24 +1,22 @@
 -- What C is handed by the calls of a ranked scan.
 -- Assumes nothing.
 use Prim.Native.Nat.{ℕ}
-use mathlib.Core.Bool.{cond}
 use mathlib.Core.List.{List}
-use lib.Dec.{eqb}
 use lib.IntN.{ℤ}
 use Rattle.layout.specs.Answers.{Said, Left}
 use Rattle.rank.specs.declared.RankScan.{RankScan}
 use Rattle.rank.specs.Calls.{World}
 use Rattle.cstructs.specs.declared.ranks.RankStarted.{RankStarted}
 use Rattle.cstructs.specs.declared.ranks.RankAnswer.{RankAnswer}
-use Rattle.cstructs.specs.Answers.{amount}
+use Rattle.cstructs.specs.Answers.{headC}
 
 -- a start or a close, and the scan after it
 abbrev pub startedC : Said → RankScan → RankStarted
 startedC s scan = record { refusal = s .number; place = s .place; scan = scan }
 
--- a row or a closing step, and the scan after it: a filtered row has the row's number where a refusal has the question's
+-- a row or a closing step, and the scan after it
 abbrev pub answerC : Said → RankScan → RankAnswer
-answerC s scan = record { kind = s .kind; number = cond (eqb (s .kind) 1) (amount s 0) (s .number); place = s .place; scan = scan }
+answerC s scan = let h = headC s in record { kind = h .kind; number = h .number; place = h .place; scan = scan }
 
 -- after a call: the answer, the three stores and the output
 pub record Handed (A : Type 0) : Type 0 where

@@ -2,8 +2,9 @@
 ghost use mathlib.Core.Path.{_≡_};
 ghost use Rattle.burst.specs.Bursts.{burstSaid};
 ghost use Rattle.cstructs.specs.Answers.{burstC};
+use crate::answers::Refusal;
+use crate::answers::refusal_of;
 use burst::Burst;
-use layout::Verdict;
 use scan::Scan;
 
 // strip_burst
@@ -17,12 +18,12 @@ pub struct BurstAnswer {
 }
 
 // A strip_burst of these parts.
-fn burst_of(refusal: u32, place: u32, taken: usize, filtered: usize, scan: Scan) -> BurstAnswer
-    ensures { λ r. ⌜ r ≡ record { refusal = refusal; place = place; taken = taken; filtered = filtered; scan = scan } ⌝ }
+fn burst_of(r: Refusal, taken: usize, filtered: usize, scan: Scan) -> BurstAnswer
+    ensures { λ x. ⌜ x ≡ record { refusal = r .number; place = r .place; taken = taken; filtered = filtered; scan = scan } ⌝ }
 {
     BurstAnswer {
-        refusal,
-        place,
+        refusal: r.number,
+        place: r.place,
         taken,
         filtered,
         scan,
@@ -34,9 +35,5 @@ pub fn burst_counted(b: Burst) -> BurstAnswer
     ensures { λ r. ⌜ r ≡ burstC (burstSaid b) (b .scan) ⌝ }
 {
     let v = b.verdict;
-    let scan = b.scan;
-    match v {
-        Verdict::Refused(number, place) => burst_of(number, place, b.taken, b.filtered, scan),
-        Verdict::Accepted => burst_of(0, 0, b.taken, b.filtered, scan),
-    }
+    burst_of(refusal_of(v), b.taken, b.filtered, b.scan)
 }

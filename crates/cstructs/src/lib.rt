@@ -1,4 +1,5 @@
 // Inner: the structs of the header include/strip.h, each from what a call answers.
+mod answers;
 mod bursts;
 mod pixels;
 mod ranks;

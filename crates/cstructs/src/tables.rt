@@ -4,8 +4,9 @@ ghost use Rattle.layout.specs.Answers.{said};
 ghost use Rattle.table.specs.Format.{handed};
 ghost use Rattle.table.specs.Writing.{writtenSaid};
 ghost use Rattle.cstructs.specs.Answers.{loadedC, writtenC};
+use crate::answers::Refusal;
+use crate::answers::refusal_of;
 use layout::Table;
-use layout::Verdict;
 use table::Loaded;
 use table::Written;
 
@@ -26,12 +27,12 @@ pub struct TableWritten {
 }
 
 // A strip_loaded of these parts.
-fn load_of(refusal: u32, place: u32, table: Table) -> TableLoaded
-    ensures { λ r. ⌜ r ≡ record { refusal = refusal; place = place; table = table } ⌝ }
+fn load_of(r: Refusal, table: Table) -> TableLoaded
+    ensures { λ x. ⌜ x ≡ record { refusal = r .number; place = r .place; table = table } ⌝ }
 {
     TableLoaded {
-        refusal,
-        place,
+        refusal: r.number,
+        place: r.place,
         table,
     }
 }
@@ -52,11 +53,7 @@ pub fn table_loaded(l: Loaded) -> TableLoaded
     ensures { λ r. ⌜ r ≡ loadedC (handed (said (l .verdict)) (l .table)) ⌝ }
 {
     let v = l.verdict;
-    let table = l.table;
-    match v {
-        Verdict::Refused(number, place) => load_of(number, place, table),
-        Verdict::Accepted => load_of(0, 0, table),
-    }
+    load_of(refusal_of(v), l.table)
 }
 
 // The length of a file that was written, or the refusal, as C has it.
