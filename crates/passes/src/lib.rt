@@ -17,5 +17,5 @@ pub use values::weigh;
 pub use words::fit_narrow;
 pub use words::fit_wide;
 
-// 2^41: a value of 64 bits is held raised by it, so that no pass has a signed number.
+// 2^41: a value of 64 bits is held raised by it, so that it is added up without a sign.
 pub const BIAS: u64 = 2199023255552;
