@@ -13,17 +13,18 @@ use Rattle.limits.specs.Limits.{headAsks, rectGood}
 use Rattle.limits.proofs.Asked.{HeadTests, head-accepted}
 use Rattle.table.specs.Format.{marked, rectOf, headerAsks, fieldAsks}
 
--- a field that questions 7, 2 and 8 accept
-pub record FieldTests (bs : List ℕ) : Type 0 where
+-- a field that questions 7, 6, 2 and 8 accept
+pub record FieldTests (left : ℕ) (bs : List ℕ) : Type 0 where
   pub mark : marked 2 bs ≡ true
+  pub room : 1 ≤ left
   pub whole : 9 ≤ length bs
   pub edges : rectGood (rectOf bs) ≡ true
 
-pub field-accepted : (bs : List ℕ) → verdict (fieldAsks bs) ≡ Accepted → FieldTests bs
+pub field-accepted : (left : ℕ) (bs : List ℕ) → verdict (fieldAsks left bs) ≡ Accepted → FieldTests left bs
 unfolding fieldAsks
-field-accepted bs e =
-    let y = all-yes (fieldAsks bs) e in
-    record { mark = y .0; whole = leb-true _ _ (y .1 .0); edges = y .1 .1 .0 }
+field-accepted left bs e =
+    let y = all-yes (fieldAsks left bs) e in
+    record { mark = y .0; room = leb-true _ _ (y .1 .0); whole = leb-true _ _ (y .1 .1 .0); edges = y .1 .1 .1 .0 }
 
 -- a header that questions 1 to 5 accept
 pub record HeaderTests (bs : List ℕ) : Type 0 where

@@ -1,6 +1,6 @@
 -- A table within the limits, written out: loading its file gives the table back.
 -- Assumes nothing.
-use Prim.Native.Nat.{ℕ, zero, suc, _+_, _/_, _%_, _≤_, _<_}
+use Prim.Native.Nat.{ℕ, zero, suc, _+_, _-_, _/_, _%_, _≤_, _<_}
 use native.Mathlib.Omega.{arith}
 use native.Mathlib.Nat.{div-add-mod'}
 use mathlib.Core.Path.{_≡_, refl, sym, ap, _∙_, subst}
@@ -20,7 +20,7 @@ use Rattle.layout.specs.declared.Verdict.the-variants.{Accepted}
 use Rattle.layout.specs.Contents.{Contents, noRect}
 use Rattle.limits.specs.Limits.{bitsGood, dropsGood, wordGood, rectGood, valueGood, shaped, within}
 use Rattle.layout.specs.Answers.{verdict}
-use Rattle.table.specs.Format.{Bytes, loaded, refused, marked, rectOf, plus, headerAsks, fieldAsks, fieldsOf, parseOf, fitOf, loadOf, encodeHead, encodeRect, encodeRects, encode}
+use Rattle.table.specs.Format.{Bytes, Outcome, loaded, refused, marked, rectOf, plus, headerAsks, fieldAsks, fieldsOf, parseOf, fitOf, loadOf, encodeHead, encodeRect, encodeRects, encode}
 use Rattle.limits.specs.Limits.{headAsks}
 use Rattle.limits.proofs.Bounds.{rect-bounds, edge-fits}
 use Rattle.table.proofs.Structs.{with-rects}
@@ -54,11 +54,11 @@ long : (r : Rect) (rest : List ℕ) → 9 ≤ length (encodeRect r ++ rest)
 unfolding encodeRect
 long r rest = omega arith
 
-field-read : (r : Rect) (rest : List ℕ) → Fine r → verdict (fieldAsks (encodeRect r ++ rest)) ≡ Accepted
+field-read : (left : ℕ) (r : Rect) (rest : List ℕ) → Fine r → verdict (fieldAsks (suc left) (encodeRect r ++ rest)) ≡ Accepted
 unfolding fieldAsks marked encodeRect
-field-read r rest f =
+field-read left r rest f =
     let l = long r rest in
-    rw (read-back r rest f, le-leb 3 (length (encodeRect r ++ rest)) (omega arith), le-leb 9 (length (encodeRect r ++ rest)) l, true-of (rectGood r) (f .0))
+    rw (read-back r rest f, le-leb 1 (suc left) (omega arith), le-leb 3 (length (encodeRect r ++ rest)) (omega arith), le-leb 9 (length (encodeRect r ++ rest)) l, true-of (rectGood r) (f .0))
 
 field-gone : (r : Rect) (rest : List ℕ) → drop 9 (encodeRect r ++ rest) ≡ rest
 unfolding encodeRect
@@ -69,21 +69,38 @@ field-gone r rest = refl
 abbrev pub Fines : List Rect → Type 0
 Fines rs = (k : ℕ) → k < length rs → Fine (getD rs k noRect)
 
+-- rectangles that are read one after the other: what is read behind their fields, with them in the table
+module _ (read : (left : ℕ) → List ℕ → Contents → Outcome)
+    (on : (left : ℕ) (r : Rect) (rest : List ℕ) (c : Contents) → Fine r → read (suc left) (encodeRect r ++ rest) c ≡ read left rest (plus c r)) where
+  pub through : (n left : ℕ) (rs : List Rect) (rest : List ℕ) (c : Contents) → n ≡ length rs + left → Fines rs
+      → read n (encodeRects rs ++ rest) c ≡ read left rest (with-rects c (c .rects ++ rs))
+  unfolding encodeRects encodeRect
+  through n left [] rest c e f =
+      let z : n ≡ left = omega arith in
+      ap (λ k. read k rest c) z ∙ ap (λ l. read left rest (with-rects c l)) (sym (append-nil (c .rects)))
+  through zero left (r ∷ rs) rest c e f = absurd (omega arith)
+  through (suc n) left (r ∷ rs) rest c e f =
+      on n r (encodeRects rs ++ rest) c (f zero (omega arith))
+      ∙ through n left rs rest (plus c r) (omega arith) (λ k p. f (suc k) (omega arith))
+      ∙ ap (λ l. read left rest (with-rects c l)) (append-assoc (c .rects) (r ∷ []) rs)
+
+fields-on : (left : ℕ) (r : Rect) (rest : List ℕ) (c : Contents) → Fine r → fieldsOf (suc left) (encodeRect r ++ rest) c ≡ fieldsOf left rest (plus c r)
+fields-on left r rest c f =
+    let l = long r rest in
+    fields-step (suc left) (encodeRect r ++ rest) c (omega arith)
+    ∙ rw (field-read left r rest f, read-back r rest f, field-gone r rest)
+
+pub fields-through : (n left : ℕ) (rs : List Rect) (rest : List ℕ) (c : Contents) → n ≡ length rs + left → Fines rs
+    → fieldsOf n (encodeRects rs ++ rest) c ≡ fieldsOf left rest (with-rects c (c .rects ++ rs))
+fields-through = through fieldsOf fields-on
+
 fields-read : (left : ℕ) (rs : List Rect) (c : Contents) → length rs ≤ left → Fines rs → 1 ≤ length (c .rects ++ rs)
     → fieldsOf left (encodeRects rs) c ≡ loaded (with-rects c (c .rects ++ rs))
-unfolding encodeRects
-fields-read left [] c h f n =
-    fields-end left [] c refl
-    ∙ (let e = append-nil (c .rects) in rw (e, le-leb 1 _ (subst (λ l. 1 ≤ length l) e n)))
-fields-read zero (r ∷ rs) c h f n = absurd (omega arith)
-fields-read (suc left) (r ∷ rs) c h f n =
-    let g = f zero (omega arith) in
-    let l = long r (encodeRects rs) in
-    let a = append-assoc (c .rects) (r ∷ []) rs in
-    fields-step left (encodeRect r ++ encodeRects rs) c (omega arith)
-    ∙ rw (field-read r (encodeRects rs) g, read-back r (encodeRects rs) g, field-gone r (encodeRects rs))
-    (fields-read left rs (plus c r) (omega arith) (λ k p. f (suc k) (omega arith)) (subst (λ l. 1 ≤ length l) (sym a) n)
-    ∙ ap (λ l. loaded (with-rects c l)) a)
+fields-read left rs c h f n =
+    ap (λ bs. fieldsOf left bs c) (sym (append-nil (encodeRects rs)))
+    ∙ fields-through left (left - length rs) rs [] c (omega arith) f
+    ∙ fields-end (left - length rs) [] (with-rects c (c .rects ++ rs)) refl
+    ∙ rw (le-leb 1 _ n)
 
 -- ---- the whole file
 

@@ -44,19 +44,20 @@ header-numbers : (bs : List ℕ) → T (numbered (headerAsks bs))
 unfolding headerAsks headAsks
 header-numbers bs = tt
 
-field-numbers : (bs : List ℕ) → T (numbered (fieldAsks bs))
+field-numbers : (left : ℕ) (bs : List ℕ) → T (numbered (fieldAsks left bs))
 unfolding fieldAsks
-field-numbers bs = tt
+field-numbers left bs = tt
 
 end-numbers : (c : Contents) → Outcomes (atEnd c)
 end-numbers c = followed (asks 9 (leb 1 (length (c .rects))) ∷ []) (loaded c) tt loads
 
 fields-numbers : (left : ℕ) (bs : List ℕ) (c : Contents) → Outcomes (fieldsOf left bs c)
 unfolding fieldsOf
-fields-numbers zero bs c = chosen (eqb (length bs) 0) _ _ (end-numbers c) (fails (record { least = omega arith; most = omega arith; place = refl }))
+fields-numbers zero bs c =
+    chosen (eqb (length bs) 0) _ _ (end-numbers c) (followed (fieldAsks zero bs) _ (field-numbers zero bs) (end-numbers c))
 fields-numbers (suc left) bs c =
     chosen (eqb (length bs) 0) _ _ (end-numbers c)
-    (followed (fieldAsks bs) _ (field-numbers bs) (fields-numbers left (drop 9 bs) (plus c (rectOf bs))))
+    (followed (fieldAsks (suc left) bs) _ (field-numbers (suc left) bs) (fields-numbers left (drop 9 bs) (plus c (rectOf bs))))
 
 fit-numbers : (o : Outcome) → Outcomes o → Outcomes (fitOf o)
 fit-numbers (refused n p) h = h

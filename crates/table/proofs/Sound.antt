@@ -26,7 +26,7 @@ use Rattle.table.specs.Format.{Bytes, Outcome, refused, loaded, marked, 
 use Rattle.limits.proofs.Asked.{HeadTests}
 use Rattle.table.proofs.Asked.{FieldTests, field-accepted, HeaderTests, header-accepted}
 use Rattle.table.proofs.Structs.{with-rects}
-use Rattle.table.proofs.Fields.{fields-end, fields-full, fields-step, parse-step}
+use Rattle.table.proofs.Fields.{fields-end, fields-step, parse-step}
 
 -- ---- verdicts and outcomes
 
@@ -80,9 +80,9 @@ mark-bytes tag bs e =
     (eqb→eq _ _ (b .0), eqb→eq _ _ (c .0), eqb→eq _ _ (c .1))
 
 -- a field is written out as it was read
-field-again : (bs : List ℕ) → Bytes bs → FieldTests bs → encodeRect (rectOf bs) ++ drop 9 bs ≡ bs
+field-again : (left : ℕ) (bs : List ℕ) → Bytes bs → FieldTests left bs → encodeRect (rectOf bs) ++ drop 9 bs ≡ bs
 unfolding encodeRect
-field-again bs byte f =
+field-again left bs byte f =
     let w = f .whole in
     let m = mark-bytes 2 bs (f .mark) in
     let at : (k : ℕ) → k < 9 → getD bs k 0 < 256 = λ k h. byte k (omega arith) in
@@ -145,7 +145,7 @@ rest-none left bs c d z e =
       again = λ _. sym (no-bytes bs z);
     }
 
-rest-more : (left : ℕ) (bs : List ℕ) (c d : Contents) → FieldTests bs → Rest left (drop 9 bs) (plus c (rectOf bs)) d → Rest (suc left) bs c d
+rest-more : (left : ℕ) (bs : List ℕ) (c d : Contents) → FieldTests (suc left) bs → Rest left (drop 9 bs) (plus c (rectOf bs)) d → Rest (suc left) bs c d
 unfolding encodeRects
 rest-more left bs c d f r =
     record {
@@ -155,7 +155,7 @@ rest-more left bs c d f r =
       some = r .some;
       good = good;
       weights = weights;
-      again = λ byte. ap (λ l. encodeRect (rectOf bs) ++ l) (r .again (bytes-drop 9 bs byte)) ∙ field-again bs byte f;
+      again = λ byte. ap (λ l. encodeRect (rectOf bs) ++ l) (r .again (bytes-drop 9 bs byte)) ∙ field-again (suc left) bs byte f;
     }
   where
     good : (k : ℕ) → k < suc (length (r .rects)) → rectGood (getD (rectOf bs ∷ r .rects) k noRect) ≡ true
@@ -170,14 +170,16 @@ pub fields-sound : (left : ℕ) (bs : List ℕ) (c d : Contents) → fieldsOf le
 fields-sound zero bs c d e =
     elim (eq-zero-or-pos (length bs)) [
       | inl z ↦ rest-none zero bs c d z (sym (fields-end zero bs c z) ∙ e)
-      | inr p ↦ absurd (let o = sym (fields-full bs c p) ∙ e in let z : _≡_ {A = ℕ} 0 1 = cc in omega arith)
+      | inr p ↦
+          let a = after-loaded (verdict (fieldAsks zero bs)) _ d (sym (fields-step zero bs c p) ∙ e) in
+          absurd (let r = field-accepted zero bs (a .0) .room in omega arith)
     ]
 fields-sound (suc left) bs c d e =
     elim (eq-zero-or-pos (length bs)) [
       | inl z ↦ rest-none (suc left) bs c d z (sym (fields-end (suc left) bs c z) ∙ e)
       | inr p ↦
-          let a = after-loaded (verdict (fieldAsks bs)) _ d (sym (fields-step left bs c p) ∙ e) in
-          rest-more left bs c d (field-accepted bs (a .0)) (fields-sound left (drop 9 bs) (plus c (rectOf bs)) d (a .1))
+          let a = after-loaded (verdict (fieldAsks (suc left) bs)) _ d (sym (fields-step (suc left) bs c p) ∙ e) in
+          rest-more left bs c d (field-accepted (suc left) bs (a .0)) (fields-sound left (drop 9 bs) (plus c (rectOf bs)) d (a .1))
     ]
 
 -- ---- the whole file

@@ -1,4 +1,4 @@
--- Loading looks no further than one byte past the longest table.
+-- Loading looks no further than a mark past the longest table.
 -- Assumes nothing.
 use Prim.Native.Nat.{ℕ, zero, suc, _+_, _-_, _*_, _≤_, _<_}
 use native.Mathlib.Omega.{arith}
@@ -11,7 +11,7 @@ use lib.Seq.{take-nil, getD-take}
 use Rattle.layout.specs.Contents.{Contents}
 use Rattle.layout.specs.Answers.{asks, firstNo}
 use Rattle.limits.specs.Limits.{headAsks}
-use Rattle.table.specs.Format.{refused, marked, headOf, rectOf, plus, headerAsks, fieldAsks, atEnd, fieldsOf, parseOf, fitOf, loadOf}
+use Rattle.table.specs.Format.{refused, marked, headOf, rectOf, plus, headerAsks, fieldAsks, further, fieldsOf, parseOf, fitOf, loadOf}
 
 -- whether there are m bytes, seen in the first n
 leb-length-take : (m n : ℕ) (bs : List ℕ) → m ≤ n → leb m (length (take n bs)) ≡ leb m (length bs)
@@ -36,13 +36,14 @@ drop-take (suc m) (suc n) (x ∷ bs) h =
     let e : n - m ≡ suc n - suc m = omega arith in
     drop-take m n bs (omega arith) ∙ ap (λ k. take k (drop m bs)) e
 
+-- a mark, seen in the first n bytes
+marked-take : (tag n : ℕ) (bs : List ℕ) → 3 ≤ n → marked tag (take n bs) ≡ marked tag bs
+unfolding marked
+marked-take tag n bs h =
+    rw (leb-length-take 3 n bs h, getD-take n bs 0 0 (omega arith), getD-take n bs 1 0 (omega arith), getD-take n bs 2 0 (omega arith))
+
 -- the parts of a field, seen in the first n bytes
 module _ (n : ℕ) (bs : List ℕ) (h : 9 ≤ n) where
-  marked-take : (tag : ℕ) → marked tag (take n bs) ≡ marked tag bs
-  unfolding marked
-  marked-take tag =
-      rw (leb-length-take 3 n bs (omega arith), getD-take n bs 0 0 (omega arith), getD-take n bs 1 0 (omega arith), getD-take n bs 2 0 (omega arith))
-
   head-take : headOf (take n bs) ≡ headOf bs
   head-take =
       rw (
@@ -68,31 +69,35 @@ module _ (n : ℕ) (bs : List ℕ) (h : 9 ≤ n) where
   header-take : headerAsks (take n bs) ≡ headerAsks bs
   unfolding headerAsks
   header-take =
-      rw (marked-take 1, leb-length-take 9 n bs h)
+      rw (marked-take 1 n bs (omega arith), leb-length-take 9 n bs h)
       (ap (λ c. asks 1 (marked 1 bs) ∷ asks 2 (leb 9 (length bs)) ∷ headAsks (c .b) (c .q1) (c .q2) (c .q3) (c .t) (c .w)) head-take)
 
-  field-take : fieldAsks (take n bs) ≡ fieldAsks bs
+  field-take : (left : ℕ) → fieldAsks left (take n bs) ≡ fieldAsks left bs
   unfolding fieldAsks
-  field-take = rw (marked-take 2, leb-length-take 9 n bs h, rect-take)
+  field-take left = rw (marked-take 2 n bs (omega arith), leb-length-take 9 n bs h, rect-take)
 
--- where `left` rectangles more may be read, 9 bytes for each of them and one byte more are enough
-fields-take : (left n : ℕ) (bs : List ℕ) (c : Contents) → 9 * left < n → fieldsOf left (take n bs) c ≡ fieldsOf left bs c
+-- where no rectangle more may be read, a mark is enough
+full-take : (n : ℕ) (bs : List ℕ) (c : Contents) → 3 ≤ n → fieldsOf 0 (take n bs) c ≡ fieldsOf 0 bs c
+unfolding fieldsOf fieldAsks
+full-take n bs c h = rw (eqb-length-take n bs (omega arith), marked-take 2 n bs h)
+
+-- where `left` may be read, 9 bytes for each of them and a mark
+fields-take : (left n : ℕ) (bs : List ℕ) (c : Contents) → 9 * left + 3 ≤ n → fieldsOf left (take n bs) c ≡ fieldsOf left bs c
 unfolding fieldsOf
-fields-take zero n bs c h = rw (eqb-length-take n bs (omega arith))
+fields-take zero n bs c h = full-take n bs c (omega arith)
 fields-take (suc left) n bs c h =
     let l : 9 ≤ n = omega arith in
-    rw (eqb-length-take n bs (omega arith), field-take n bs l, rect-take n bs l, drop-take 9 n bs l)
-    (ap (λ o. cond (eqb (length bs) 0) (atEnd c) (firstNo (fieldAsks bs) refused o))
-    (fields-take left (n - 9) (drop 9 bs) (plus c (rectOf bs)) (omega arith)))
+    rw (eqb-length-take n bs (omega arith), field-take n bs l (suc left), rect-take n bs l, drop-take 9 n bs l)
+    (ap (further (suc left) bs c) (fields-take left (n - 9) (drop 9 bs) (plus c (rectOf bs)) (omega arith)))
 
-parse-take : (n : ℕ) (bs : List ℕ) → 9 + 9 * 16 < n → parseOf (take n bs) ≡ parseOf bs
+parse-take : (n : ℕ) (bs : List ℕ) → 9 + 9 * 16 + 3 ≤ n → parseOf (take n bs) ≡ parseOf bs
 unfolding parseOf
 parse-take n bs h =
     let l : 9 ≤ n = omega arith in
     rw (header-take n bs l, drop-take 9 n bs l, head-take n bs l)
     (ap (firstNo (headerAsks bs) refused) (fields-take 16 (n - 9) (drop 9 bs) (headOf bs) (omega arith)))
 
--- the header's field, 16 more and one byte more are enough to load a file
-pub load-take : (n : ℕ) (bs : List ℕ) → 9 + 9 * 16 < n → loadOf (take n bs) ≡ loadOf bs
+-- the header's field, 16 more and a mark are enough to load a file
+pub load-take : (n : ℕ) (bs : List ℕ) → 9 + 9 * 16 + 3 ≤ n → loadOf (take n bs) ≡ loadOf bs
 unfolding loadOf
 load-take n bs h = ap fitOf (parse-take n bs h)

@@ -127,7 +127,7 @@ pub refused-table : (bs : List ℕ) (n p : ℕ) → loadOf bs ≡ refused n p
 unfolding acceptable within shaped bitsGood writeOf
 refused-table bs n p e = rw e (refl, λ out. refl)
 
--- the first 154 bytes of a file are enough: the table has at most 9 + 9·16 = 153, and of what follows only whether there is a byte
--- matters. The first 153 are not: those of a longer file may be a table, which is accepted
-pub first-154 : (bs : List ℕ) → loadOf (take readMost bs) ≡ loadOf bs
-first-154 bs = load-take readMost bs (omega arith)
+-- the first 156 bytes of a file are enough: the table has at most 9 + 9·16 = 153, and of what follows only whether it begins with a
+-- field's mark matters
+pub first-156 : (bs : List ℕ) → loadOf (take readMost bs) ≡ loadOf bs
+first-156 bs = load-take readMost bs (omega arith)

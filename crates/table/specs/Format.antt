@@ -52,19 +52,24 @@ headerAsks bs =
     asks 1 (marked 1 bs) ∷ asks 2 (leb 9 (length bs))
     ∷ headAsks (getD bs 3 0) (getD bs 4 0) (getD bs 5 0) (getD bs 6 0) (getD bs 7 0) (getD bs 8 0)
 
--- questions 7, 2 and 8, on a further field
-unfoldable pub fieldAsks : List ℕ → List Question
-fieldAsks bs = asks 7 (marked 2 bs) ∷ asks 2 (leb 9 (length bs)) ∷ asks 8 (rectGood (rectOf bs)) ∷ []
+-- questions 7, 6, 2 and 8, on a further field where `left` rectangles more may be read
+unfoldable pub fieldAsks : (left : ℕ) → List ℕ → List Question
+fieldAsks left bs =
+    asks 7 (marked 2 bs) ∷ asks 6 (leb 1 left) ∷ asks 2 (leb 9 (length bs)) ∷ asks 8 (rectGood (rectOf bs)) ∷ []
 
 -- question 9, at the end of the file
 abbrev pub atEnd : Contents → Outcome
 atEnd c = firstNo (asks 9 (leb 1 (length (c .rects))) ∷ []) refused (loaded c)
 
--- the fields after the header while bytes remain, where `left` rectangles more may be read: question 6 asks that there are any
+-- the end of the file, or a further field's questions and then `next`
+abbrev pub further : (left : ℕ) → List ℕ → Contents → (next : Outcome) → Outcome
+further left bs c next = cond (eqb (length bs) 0) (atEnd c) (firstNo (fieldAsks left bs) refused next)
+
+-- the fields after the header while bytes remain, where `left` rectangles more may be read. Where none may, question 6 says no, and
+-- what would be next does not matter
 unfoldable pub fieldsOf : (left : ℕ) → List ℕ → Contents → Outcome
-fieldsOf zero bs c = cond (eqb (length bs) 0) (atEnd c) (refused 6 0)
-fieldsOf (suc left) bs c =
-    cond (eqb (length bs) 0) (atEnd c) (firstNo (fieldAsks bs) refused (fieldsOf left (drop 9 bs) (plus c (rectOf bs))))
+fieldsOf zero bs c = further zero bs c (atEnd c)
+fieldsOf (suc left) bs c = further (suc left) bs c (fieldsOf left (drop 9 bs) (plus c (rectOf bs)))
 
 -- questions 1 to 9
 unfoldable pub parseOf : List ℕ → Outcome
@@ -79,9 +84,9 @@ fitOf (loaded c) = firstNo (asks 10 (valueGood c) ∷ []) refused (loaded c)
 unfoldable pub loadOf : List ℕ → Outcome
 loadOf bs = fitOf (parseOf bs)
 
--- how many bytes of a file are enough to load it: one more than the longest table has
+-- how many bytes of a file are enough to load it: three more than the longest table has, which are a mark or are none
 abbrev pub readMost : ℕ
-readMost = 154
+readMost = 156
 
 -- what is said of the file
 abbrev pub saidOf : Outcome → Said

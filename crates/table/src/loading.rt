@@ -73,11 +73,8 @@ fn fields(bytes: &[u8], start: Table) -> Loaded
     let mut at = 9;
     while at < bytes.len() {
         let count = t.count;
-        if 16 <= count {
-            return refused(6, 0);
-        }
         let rest = &bytes[at..];
-        let v = field(rest);
+        let v = field(16 - count, rest);
         match v {
             Verdict::Refused(number, place) => return refused(number, place),
             Verdict::Accepted => {}

@@ -40,12 +40,15 @@ pub fn header(bytes: &[u8]) -> Verdict
     head(bytes[3], bytes[4], bytes[5], bytes[6], bytes[7], bytes[8])
 }
 
-// Questions 7, 2 and 8, on a further field.
-pub fn field(bytes: &[u8]) -> Verdict
-    ensures { λ r. ⌜ r ≡ verdict (fieldAsks (now (bytes .entry))) ⌝ }
+// Questions 7, 6, 2 and 8, on a further field where `left` rectangles more may be read.
+pub fn field(left: usize, bytes: &[u8]) -> Verdict
+    ensures { λ r. ⌜ r ≡ verdict (fieldAsks left (now (bytes .entry))) ⌝ }
 {
     if !starts(2, bytes) {
         return Verdict::Refused(7, 0);
+    }
+    if left < 1 {
+        return Verdict::Refused(6, 0);
     }
     if bytes.len() < 9 {
         return Verdict::Refused(2, 0);

@@ -7,7 +7,7 @@ use Rattle.table.proofs.Asked.{FieldTests, field-accepted}
 use Rattle.limits.proofs.Values.{slots}
 use mathlib.Core.List.{_∷_}
 use lib.ListN.{length-append}
-use Rattle.table.proofs.Fields.{fields-end, fields-full, fields-step}
+use Rattle.table.proofs.Fields.{next, fields-end, fields-step}
 use Rattle.table.proofs.Structs.{contents-tableOf, placed, placed-is}
 use Rattle.table.specs.Format.{refused, plus, rectOf, fieldAsks, handed, handedOut}
 use Rattle.layout.specs.Contents.{noRects}
@@ -46,10 +46,13 @@ ended : (bs : List ℕ) (n p : ℕ) (v : Verdict) (t : Table) → fieldsOf 16 (d
 ended bs n p v t e h k = ap₂ handed (ap said h) k ∙ sym (ap handedOut e)
 
 -- a turn of the loop: the field at `at` was accepted, and its rectangle goes into the first free slot
-module _ (bs : List ℕ) (t : Table) (at : ℕ) (inv : Inv-loop bs t at t at) (free : t .count < 16) (more : at < length bs)
-    (v : verdict (fieldAsks (drop at bs)) ≡ Accepted) where
-  field-good : FieldTests (drop at bs)
-  field-good = field-accepted (drop at bs) v
+module _ (bs : List ℕ) (t : Table) (at : ℕ) (inv : Inv-loop bs t at t at) (more : at < length bs)
+    (v : verdict (fieldAsks (16 - t .count) (drop at bs)) ≡ Accepted) where
+  field-good : FieldTests (16 - t .count) (drop at bs)
+  field-good = field-accepted (16 - t .count) (drop at bs) v
+
+  free : t .count < 16
+  free = let r = field-good .room in omega arith
 
   within-bytes : at + 9 ≤ length bs
   within-bytes = let d = length-drop at bs in let w = field-good .whole in omega arith
@@ -57,26 +60,27 @@ module _ (bs : List ℕ) (t : Table) (at : ℕ) (inv : Inv-loop bs t at t at) (f
   next-is : placed t (rectOf (drop at bs)) ≡ tableOf (plus (contents t) (rectOf (drop at bs)))
   next-is =
       ap (λ x. placed x (rectOf (drop at bs))) (inv .0)
-      ∙ placed-is (contents t) (rectOf (drop at bs)) (let e = slots t in omega arith)
+      ∙ placed-is (contents t) (rectOf (drop at bs)) (let e = slots t in let g = free in omega arith)
 
   next-contents : contents (placed t (rectOf (drop at bs))) ≡ plus (contents t) (rectOf (drop at bs))
   next-contents =
       ap contents next-is
       ∙ contents-tableOf (plus (contents t) (rectOf (drop at bs)))
-      (let e = slots t in let l = length-append (contents t .rects) (rectOf (drop at bs) ∷ []) in omega arith)
+      (let e = slots t in let g = free in let l = length-append (contents t .rects) (rectOf (drop at bs) ∷ []) in omega arith)
 
   next-inv : Inv-loop bs t at (placed t (rectOf (drop at bs))) (at + 9)
   next-inv =
       let d = length-drop at bs in
+      let g = free in
       let z : 16 - t .count ≡ suc (16 - (t .count + 1)) = omega arith in (
         next-is ∙ ap tableOf (sym next-contents),
         omega arith,
         within-bytes,
         ap (λ x. fieldsOf (16 - (t .count + 1)) (drop (at + 9) bs) x) next-contents
             ∙ ap (λ x. fieldsOf (16 - (t .count + 1)) x (plus (contents t) (rectOf (drop at bs)))) (sym (drop-drop 9 at bs))
-            ∙ sym (fields-step (16 - (t .count + 1)) (drop at bs) (contents t) (omega arith)
-            ∙ ap (λ x. onVerdict x refused (fieldsOf (16 - (t .count + 1)) (drop 9 (drop at bs)) (plus (contents t) (rectOf (drop at bs))))) v)
-            ∙ ap (λ n. fieldsOf n (drop at bs) (contents t)) (sym z)
+            ∙ sym (fields-step (16 - t .count) (drop at bs) (contents t) (omega arith)
+            ∙ ap (λ x. onVerdict x refused (next (16 - t .count) (drop at bs) (contents t))) v
+            ∙ ap (λ n. next n (drop at bs) (contents t)) z)
             ∙ inv .3,
       )
 
@@ -87,19 +91,6 @@ loop-holds c =
     let bs = now (c .before .args .bytes) in
     rw e (refl, search needs, c .before .pre .0, refl)
 
-refused-requires : tie.Need-refused-requires Inv-loop μ-loop
-refused-requires c κs = search needs
-
-returns : tie.Need-returns Inv-loop μ-loop
-returns c =
-    let s = c .before .before .before in
-    let i = s .loop .inv in
-    let bs = now (s .before .before .args .bytes) in
-    let d = length-drop (s .loop .at) bs in
-    let z : 16 - s .loop .t .count ≡ 0 = omega arith in
-    let e = sym (i .3) ∙ ap (λ n. fieldsOf n (drop (s .loop .at) bs) (contents (s .loop .t))) z ∙ fields-full _ _ (omega arith) in
-    ended bs 6 0 _ _ e (c .refused .ensures .0) (c .refused .ensures .1)
-
 sub-rest : tie.Need-sub-rest Inv-loop μ-loop
 sub-rest c = search needs
 
@@ -109,44 +100,49 @@ part-rest-start c = search needs
 part-rest-end : tie.Need-part-rest-end Inv-loop μ-loop
 part-rest-end c = search needs
 
+sub-field : tie.Need-sub-field Inv-loop μ-loop
+sub-field c = search needs
+
 field-requires : tie.Need-field-requires Inv-loop μ-loop
 field-requires c κs = search needs
 
 enum-known-v : tie.Need-enum-known-v Inv-loop μ-loop
 enum-known-v c = search needs
 
-refused-requires-2 : tie.Need-refused-requires-2 Inv-loop μ-loop
-refused-requires-2 c κs = search needs
+refused-requires : tie.Need-refused-requires Inv-loop μ-loop
+refused-requires c κs = search needs
 
-returns-2 : tie.Need-returns-2 Inv-loop μ-loop
-returns-2 c =
-    let s = c .before .before .before .before .before .before .before .before in
-    let i = s .loop .inv in
+returns : tie.Need-returns Inv-loop μ-loop
+returns c =
+    let s = c .before .before .before .before .before .before .before in
+    let t = s .loop .t in
     let bs = now (s .before .before .args .bytes) in
+    let rest = drop (s .loop .at) bs in
     let d = length-drop (s .loop .at) bs in
-    let z : 16 - s .loop .t .count ≡ suc (15 - s .loop .t .count) = omega arith in
     let f = rw (tail-is (s .loop .at) bs) at (c .before .before .before .before .field .ensures) in
     let v = sym f ∙ c .before .before .v .given .1 in
     let e =
-    sym (i .3) ∙ ap (λ n. fieldsOf n (drop (s .loop .at) bs) (contents (s .loop .t))) z ∙ fields-step _ _ _ (omega arith)
-    ∙ ap (λ x. onVerdict x refused (fieldsOf (15 - s .loop .t .count) (drop 9 (drop (s .loop .at) bs)) (plus (contents (s .loop .t)) (rectOf (drop (s .loop .at) bs))))) v in
-    ended bs _ _ _ _ e (c .refused2 .ensures .0) (c .refused2 .ensures .1)
+    sym (s .loop .inv .3) ∙ fields-step (16 - t .count) rest (contents t) (omega arith)
+    ∙ ap (λ x. onVerdict x refused (next (16 - t .count) rest (contents t))) v in
+    ended bs _ _ _ _ e (c .refused .ensures .0) (c .refused .ensures .1)
 
 enum-told : tie.Need-enum-told Inv-loop μ-loop
 enum-told c = search needs
 
 rect-of-requires : tie.Need-rect-of-requires Inv-loop μ-loop
 rect-of-requires c κs =
-    let s = c .before .before .before .before .before .before in
+    let s = c .before .before .before .before .before in
     let bs = now (s .before .before .args .bytes) in
     let f = rw (tail-is (s .loop .at) bs) at (c .before .before .field .ensures) in
-    rw (tail-is (s .loop .at) bs) (field-accepted _ (sym f ∙ c .enum-told .given .1) .whole)
+    rw (tail-is (s .loop .at) bs) (field-accepted _ _ (sym f ∙ c .enum-told .given .1) .whole)
 
 mul-t10 : tie.Need-mul-t10 Inv-loop μ-loop
 mul-t10 c = search needs
 
 element-set-from-t : tie.Need-element-set-from-t Inv-loop μ-loop
-element-set-from-t c = search needs
+element-set-from-t c =
+    let r = field-accepted _ _ (sym (c .before .before .before .field .ensures) ∙ c .before .enum-told .given .1) .room in
+    omega arith
 
 add-t : tie.Need-add-t Inv-loop μ-loop
 add-t c = search needs
@@ -156,26 +152,26 @@ add-at c = search needs
 
 loop-less : tie.Need-loop-less Inv-loop μ-loop
 loop-less c =
-    let s = c .before .before .before .before .before .before .before in
+    let s = c .before .before .before .before .before .before in
     let bs = now (s .before .before .args .bytes) in
     let f = rw (tail-is (s .loop .at) bs) at (c .before .before .before .field .ensures) in
-    let w = field-accepted _ (sym f ∙ c .before .enum-told .given .1) .whole in
+    let w = field-accepted _ _ (sym f ∙ c .before .enum-told .given .1) .whole in
     let d = length-drop (s .loop .at) bs in
     omega arith
 
 loop-again : tie.Need-loop-again Inv-loop μ-loop
 loop-again c =
-    let s = c .before .before .before .before .before .before .before in
+    let s = c .before .before .before .before .before .before in
     let bs = now (s .before .before .args .bytes) in
     let f = rw (tail-is (s .loop .at) bs) at (c .before .before .before .field .ensures) in
     let r = rw (tail-is (s .loop .at) bs) at (c .rect-of .ensures) in
-    rw r (next-inv bs (s .loop .t) (s .loop .at) (s .loop .inv) (omega arith) (omega arith) (sym f ∙ c .before .enum-told .given .1))
+    rw r (next-inv bs (s .loop .t) (s .loop .at) (s .loop .inv) (omega arith) (sym f ∙ c .before .enum-told .given .1))
 
-refused-requires-3 : tie.Need-refused-requires-3 Inv-loop μ-loop
-refused-requires-3 c κs = search needs
+refused-requires-2 : tie.Need-refused-requires-2 Inv-loop μ-loop
+refused-requires-2 c κs = search needs
 
-returns-3 : tie.Need-returns-3 Inv-loop μ-loop
-returns-3 c =
+returns-2 : tie.Need-returns-2 Inv-loop μ-loop
+returns-2 c =
     let s = c .before .before .before in
     let i = s .loop .inv in
     let bs = now (s .before .before .args .bytes) in
@@ -183,10 +179,10 @@ returns-3 c =
     let k = slots (s .loop .t) in
     let e = sym (i .3) ∙ fields-end (16 - s .loop .t .count) (drop (s .loop .at) bs) (contents (s .loop .t)) (omega arith) in
     let n = lt-leb 1 (length (contents (s .loop .t) .rects)) (omega arith) in
-    ended bs 9 0 _ _ (e ∙ ap (λ b. cond b (loaded (contents (s .loop .t))) (refused 9 0)) n) (c .refused3 .ensures .0) (c .refused3 .ensures .1)
+    ended bs 9 0 _ _ (e ∙ ap (λ b. cond b (loaded (contents (s .loop .t))) (refused 9 0)) n) (c .refused2 .ensures .0) (c .refused2 .ensures .1)
 
-returns-4 : tie.Need-returns-4 Inv-loop μ-loop
-returns-4 c =
+returns-3 : tie.Need-returns-3 Inv-loop μ-loop
+returns-3 c =
     let s = c .before .before in
     let i = s .loop .inv in
     let bs = now (s .before .before .args .bytes) in
@@ -204,15 +200,14 @@ fields-spec =
     Inv-loop
     μ-loop
     loop-holds
-    refused-requires
-    returns
     sub-rest
     part-rest-start
     part-rest-end
+    sub-field
     field-requires
     enum-known-v
-    refused-requires-2
-    returns-2
+    refused-requires
+    returns
     enum-told
     rect-of-requires
     mul-t10
@@ -221,6 +216,6 @@ fields-spec =
     add-at
     loop-less
     loop-again
-    refused-requires-3
-    returns-3
-    returns-4)
+    refused-requires-2
+    returns-2
+    returns-3)
