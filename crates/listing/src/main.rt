@@ -1,6 +1,6 @@
 // The table listing: reads a table file from standard input and prints what it holds, or the number of the
-// refusal. At most 154 bytes are read, one more than the longest table has. Where it cannot be read, a line on standard error
-// says so, and what came is listed.
+// refusal. No more bytes are read than loading needs. Where they cannot be read, a line on standard error says so, and what came is
+// listed.
 mod cells;
 mod lines;
 
@@ -9,8 +9,9 @@ use streams::gather;
 use streams::put;
 
 fn main() {
-    let mut input = [0u8; 154];
-    let got = gather(STDIN_FILENO, &mut input, 0, 154, 154);
+    let mut input = [0u8; 156];
+    let most = table::read_most();
+    let got = gather(STDIN_FILENO, &mut input, 0, most, most);
     if got.failed {
         os::fail(b"standard input");
     }

@@ -32,8 +32,8 @@ pub fn command() -> Command {
     filtering::ended(c)
 }
 
-// The bytes of a table file. Where it cannot be opened or read, a line says why.
-pub fn table(path: &[u8], bytes: &mut [u8; 154]) -> Got
+// The bytes of a table file, no more than loading needs. Where it cannot be opened or read, a line says why.
+pub fn table(path: &[u8], bytes: &mut [u8; 156]) -> Got
     ensures { λ g. ⌜ Counts (g .end) (now (bytes .exit)) ⌝ }
 {
     let fd = os::open_read(path);
@@ -44,7 +44,8 @@ pub fn table(path: &[u8], bytes: &mut [u8; 154]) -> Got
             failed: true,
         };
     }
-    let got = gather(fd, bytes, 0, 154, 154);
+    let most = table::read_most();
+    let got = gather(fd, bytes, 0, most, most);
     if got.failed {
         os::fail(path);
     }

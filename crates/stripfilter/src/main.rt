@@ -66,7 +66,7 @@ fn filter(t: Table, values: bool) {
 
 // Filters by the table file at a path.
 fn by_table(path: &[u8], values: bool) {
-    let mut bytes = [0u8; 154];
+    let mut bytes = [0u8; 156];
     let got = input::table(path, &mut bytes);
     if got.failed {
         return;

@@ -6,6 +6,7 @@ mod writing;
 pub use loading::Loaded;
 pub use loading::load;
 pub use loading::parse;
+pub use loading::read_most;
 pub use loading::table_check;
 pub use writing::Written;
 pub use writing::write;

@@ -4,7 +4,7 @@ ghost use Prim.Native.Nat.{_≤_};
 ghost use lib.ListN.{length, drop};
 ghost use Rattle.layout.specs.Contents.{noRects, tableOf};
 ghost use Rattle.layout.specs.Answers.{said};
-ghost use Rattle.table.specs.Format.{headOf, fieldsOf, parseOf, loadOf, saidOf, handed, handedOut};
+ghost use Rattle.table.specs.Format.{headOf, fieldsOf, parseOf, loadOf, readMost, saidOf, handed, handedOut};
 use crate::reading::field;
 use crate::reading::header;
 use crate::reading::rect_of;
@@ -116,6 +116,13 @@ pub fn load(bytes: &[u8]) -> Loaded
             if value_good(t) { read } else { refused(10, 0) }
         }
     }
+}
+
+// How many bytes of a file are enough to load it: whoever reads no more is answered as for the whole file.
+pub fn read_most() -> usize
+    ensures { λ n. ⌜ n ≡ readMost ⌝ }
+{
+    156
 }
 
 // The check: 0 where the file is accepted, else the number of the refusal.

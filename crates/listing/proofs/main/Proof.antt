@@ -7,6 +7,9 @@ use borrow.Author.Needs.{needs}
 use Rattle.listing.proofs.main.Statement.{statement}
 use Rattle.listing.proofs.main.Tie as tie
 
+read-most-requires : tie.Need-read-most-requires
+read-most-requires c κs = search needs
+
 slice-aggregate-gather : tie.Need-slice-aggregate-gather
 slice-aggregate-gather c = search needs
 
@@ -58,6 +61,7 @@ pub main-spec : {M : Type 1} → statement M
 main-spec =
     tie.close
     (tie.spec
+    read-most-requires
     slice-aggregate-gather
     gather-requires
     slice-aggregate-fail

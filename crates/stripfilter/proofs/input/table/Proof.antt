@@ -16,6 +16,9 @@ fail-requires c κs = search needs
 returns : tie.Need-returns
 returns c = search needs
 
+read-most-requires : tie.Need-read-most-requires
+read-most-requires c κs = search needs
+
 gather-requires : tie.Need-gather-requires
 gather-requires c κs = search needs
 
@@ -39,6 +42,7 @@ table-spec =
     open-read-requires
     fail-requires
     returns
+    read-most-requires
     gather-requires
     fail-requires-2
     close-requires
