@@ -4,15 +4,15 @@ use Prim.Native.Nat.{ℕ, zero, suc, _+_, _-_, _/_, _%_, _≤_, _<_}
 use native.Mathlib.Omega.{arith}
 use native.Mathlib.Nat.{div-add-mod'}
 use mathlib.Core.Path.{_≡_, refl, sym, ap, _∙_, subst}
-use mathlib.Core.Bool.{true, cond, _&&_}
+use mathlib.Core.Bool.{Bool, cond, _&&_}
 use mathlib.Core.List.{List, [], _∷_, _++_, append-assoc, append-nil}
 use lib.Dec.{T, leb, ltb, leb→le, ltb→lt}
 use lib.ListN.{length, getD, drop}
 use borrow.Author.Tests.{le-leb}
-use mir.Facts.{and-yes}
+use mir.Facts.{and-yes, yes-and}
 use Rattle.arith.specs.All.{all}
 use Rattle.arith.specs.Twos.{signed, unsigned, fitsSigned}
-use Rattle.arith.proofs.Alls.{all-at}
+use Rattle.arith.proofs.Alls.{all-at, all-of}
 use Rattle.arith.proofs.Bools.{true-of}
 use Rattle.arith.proofs.Words.{signed-unsigned, unsigned-lt}
 use Rattle.layout.specs.declared.Rect.{Rect}
@@ -22,6 +22,7 @@ use Rattle.limits.specs.Limits.{bitsGood, dropsGood, wordGood, rectGood, valueG
 use Rattle.layout.specs.Answers.{verdict}
 use Rattle.table.specs.Format.{Bytes, Outcome, loaded, refused, marked, rectOf, plus, headerAsks, fieldAsks, fieldsOf, parseOf, fitOf, loadOf, encodeHead, encodeRect, encodeRects, encode}
 use Rattle.limits.specs.Limits.{headAsks}
+use Rattle.limits.proofs.Asked.{HeadTests}
 use Rattle.limits.proofs.Bounds.{rect-bounds, edge-fits}
 use Rattle.table.proofs.Structs.{with-rects}
 use Rattle.table.proofs.Fields.{fields-end, fields-step, parse-step}
@@ -32,7 +33,7 @@ use Rattle.table.proofs.Fields.{fields-end, fields-step, parse-step}
 abbrev pub Fine : Rect → Type 0
 Fine r = T (rectGood r) × T (fitsSigned 16 (r .weight))
 
-read-back : (r : Rect) (rest : List ℕ) → Fine r → rectOf (encodeRect r ++ rest) ≡ r
+pub read-back : (r : Rect) (rest : List ℕ) → Fine r → rectOf (encodeRect r ++ rest) ≡ r
 unfolding encodeRect
 read-back r rest f =
     let b = rect-bounds r (f .0) in
@@ -50,17 +51,17 @@ read-back r rest f =
     let e4 = ap (signed 16) w ∙ signed-unsigned 16 (r .weight) (omega arith) (f .1) in
     λ i. record { leadrow = e0 i; leadcol = e1 i; trailrow = e2 i; trailcol = e3 i; weight = e4 i }
 
-long : (r : Rect) (rest : List ℕ) → 9 ≤ length (encodeRect r ++ rest)
+pub long : (r : Rect) (rest : List ℕ) → 9 ≤ length (encodeRect r ++ rest)
 unfolding encodeRect
 long r rest = omega arith
 
-field-read : (left : ℕ) (r : Rect) (rest : List ℕ) → Fine r → verdict (fieldAsks (suc left) (encodeRect r ++ rest)) ≡ Accepted
+pub field-read : (left : ℕ) (r : Rect) (rest : List ℕ) → Fine r → verdict (fieldAsks (suc left) (encodeRect r ++ rest)) ≡ Accepted
 unfolding fieldAsks marked encodeRect
 field-read left r rest f =
     let l = long r rest in
     rw (read-back r rest f, le-leb 1 (suc left) (omega arith), le-leb 3 (length (encodeRect r ++ rest)) (omega arith), le-leb 9 (length (encodeRect r ++ rest)) l, true-of (rectGood r) (f .0))
 
-field-gone : (r : Rect) (rest : List ℕ) → drop 9 (encodeRect r ++ rest) ≡ rest
+pub field-gone : (r : Rect) (rest : List ℕ) → drop 9 (encodeRect r ++ rest) ≡ rest
 unfolding encodeRect
 field-gone r rest = refl
 
@@ -104,52 +105,61 @@ fields-read left rs c h f n =
 
 -- ---- the whole file
 
-head-read : (c : Contents) → bitsGood (c .b) ≡ true → dropsGood (c .b) (c .q1) (c .q2) (c .q3) ≡ true → wordGood (c .t) (c .w) ≡ true
-    → verdict (headerAsks (encode c)) ≡ Accepted
-unfolding headerAsks headAsks marked encode encodeHead
-head-read c x y z = rw (le-leb 3 (length (encode c)) (omega arith), le-leb 9 (length (encode c)) (omega arith), x, y, z)
+pub head-read : (c : Contents) (more : List ℕ) → HeadTests (c .b) (c .q1) (c .q2) (c .q3) (c .t) (c .w)
+    → verdict (headerAsks (encodeHead c ++ more)) ≡ Accepted
+unfolding headerAsks headAsks marked encodeHead
+head-read c more h =
+    rw (le-leb 3 (length (encodeHead c ++ more)) (omega arith), le-leb 9 (length (encodeHead c ++ more)) (omega arith), h .bits, h .drops, h .word)
 
-parse-read : (c : Contents) → verdict (headerAsks (encode c)) ≡ Accepted → length (c .rects) ≤ 16 → Fines (c .rects) → 1 ≤ length (c .rects)
-    → parseOf (encode c) ≡ loaded c
-unfolding encode encodeHead
-parse-read c h l f n = parse-step (encode c) ∙ rw h (fields-read 16 (c .rects) (with-rects c []) l f n)
-
--- the parts of being within the limits
-pub record Within (c : Contents) : Type 0 where
-  pub bits : bitsGood (c .b) ≡ true
-  pub drops : dropsGood (c .b) (c .q1) (c .q2) (c .q3) ≡ true
-  pub word : wordGood (c .t) (c .w) ≡ true
+-- the parts of being within the limits but for question 10
+pub record Shaped (c : Contents) : Type 0 where
+  pub head : HeadTests (c .b) (c .q1) (c .q2) (c .q3) (c .t) (c .w)
   pub some : 1 ≤ length (c .rects)
   pub most : length (c .rects) ≤ 16
   pub fine : Fines (c .rects)
-  pub value : valueGood c ≡ true
 
-pub within-parts : (c : Contents) → T (within c) → Within c
-unfolding within shaped
-within-parts c t =
-    let s = and-yes (shaped c) (valueGood c) t in
-    let a = and-yes (bitsGood (c .b)) _ (s .0) in
+abbrev fineAt : Contents → ℕ → Bool
+fineAt c k = rectGood (getD (c .rects) k noRect) && fitsSigned 16 (getD (c .rects) k noRect .weight)
+
+pub shaped-parts : (c : Contents) → T (shaped c) → Shaped c
+unfolding shaped
+shaped-parts c t =
+    let a = and-yes (bitsGood (c .b)) _ t in
     let b = and-yes (dropsGood (c .b) (c .q1) (c .q2) (c .q3)) _ (a .1) in
     let d = and-yes (wordGood (c .t) (c .w)) _ (b .1) in
     let e = and-yes (leb 1 (length (c .rects))) _ (d .1) in
-    let f = and-yes (leb (length (c .rects)) 16)
-    (all (length (c .rects)) (λ k. rectGood (getD (c .rects) k noRect) && fitsSigned 16 (getD (c .rects) k noRect .weight))) (e .1) in
+    let f = and-yes (leb (length (c .rects)) 16) (all (length (c .rects)) (fineAt c)) (e .1) in
     record {
-      bits = true-of _ (a .0);
-      drops = true-of _ (b .0);
-      word = true-of _ (d .0);
+      head = record { bits = true-of _ (a .0); drops = true-of _ (b .0); word = true-of _ (d .0) };
       some = leb→le _ _ (e .0);
       most = leb→le _ _ (f .0);
       fine = λ k l. and-yes (rectGood (getD (c .rects) k noRect)) (fitsSigned 16 (getD (c .rects) k noRect .weight)) (all-at _ _ (f .1) k l);
-      value = true-of _ (s .1);
     }
 
+pub shaped-of : (c : Contents) → Shaped c → T (shaped c)
+unfolding shaped
+shaped-of c s =
+    let each = all-of (length (c .rects)) (fineAt c) (λ k l. yes-and (rectGood (getD (c .rects) k noRect)) (fitsSigned 16 (getD (c .rects) k noRect .weight)) (s .fine k l .0) (s .fine k l .1)) in
+    rw (
+      s .head .bits,
+      s .head .drops,
+      s .head .word,
+      le-leb 1 _ (s .some),
+      le-leb _ 16 (s .most),
+      true-of (all (length (c .rects)) (fineAt c)) each,
+    )
+    tt
+
+parse-read : (c : Contents) → Shaped c → parseOf (encode c) ≡ loaded c
+unfolding encode encodeHead
+parse-read c s = parse-step (encode c) ∙ rw (head-read c (encodeRects (c .rects)) (s .head)) (fields-read 16 (c .rects) (with-rects c []) (s .most) (s .fine) (s .some))
+
 pub load-read : (c : Contents) → T (within c) → loadOf (encode c) ≡ loaded c
-unfolding loadOf
+unfolding loadOf within
 load-read c t =
-    let w = within-parts c t in
-    ap fitOf (parse-read c (head-read c (w .bits) (w .drops) (w .word)) (w .most) (w .fine) (w .some))
-    ∙ ap (λ x. cond x (loaded c) (refused 10 0)) (w .value)
+    let w = and-yes (shaped c) (valueGood c) t in
+    ap fitOf (parse-read c (shaped-parts c (w .0)))
+    ∙ ap (λ x. cond x (loaded c) (refused 10 0)) (true-of (valueGood c) (w .1))
 
 -- ---- the file is made of bytes
 
@@ -186,9 +196,10 @@ rects-bytes [] f = none
 rects-bytes (r ∷ rs) f = rect-bytes r (encodeRects rs) (f zero (omega arith)) (rects-bytes rs (λ k p. f (suc k) (omega arith)))
 
 pub encode-bytes : (c : Contents) → T (within c) → Bytes (encode c)
-unfolding encode encodeHead bitsGood dropsGood wordGood
+unfolding encode encodeHead bitsGood dropsGood wordGood within
 encode-bytes c t =
-    let w = within-parts c t in
+    let p = shaped-parts c (and-yes (shaped c) (valueGood c) t .0) in
+    let w = p .head in
     let x = and-yes (leb 1 (c .b)) (leb (c .b) 12) (subst T (sym (w .bits)) tt) in
     let y = and-yes (ltb (c .q1) (c .b)) (leb (c .q2) 8 && leb (c .q3) 8) (subst T (sym (w .drops)) tt) in
     let y1 = and-yes (leb (c .q2) 8) (leb (c .q3) 8) (y .1) in
@@ -202,4 +213,4 @@ encode-bytes c t =
     let v = leb→le (c .w) 32 (z1 .1) in
     bytes-of (more {x = 1} (omega arith) (more {x = 0} (omega arith) (more {x = 6} (omega arith)
     (more {x = c .b} (omega arith) (more {x = c .q1} (omega arith) (more {x = c .q2} (omega arith)
-    (more {x = c .q3} (omega arith) (more {x = c .t} (omega arith) (more {x = c .w} (omega arith) (rects-bytes (c .rects) (w .fine)))))))))))
+    (more {x = c .q3} (omega arith) (more {x = c .t} (omega arith) (more {x = c .w} (omega arith) (rects-bytes (c .rects) (p .fine)))))))))))

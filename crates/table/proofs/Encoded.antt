@@ -28,14 +28,16 @@ pub length-head : (c : Contents) → length (encodeHead c) ≡ 9
 unfolding encodeHead
 length-head c = refl
 
-pub length-file : (t : Table) → length (encode (contents t)) ≡ 9 + 9 * t .count
+pub length-encode : (c : Contents) → length (encode c) ≡ 9 + 9 * length (c .rects)
 unfolding encode
-length-file t =
-    let a = length-append (encodeHead (contents t)) (encodeRects (contents t .rects)) in
-    let b = length-head (contents t) in
-    let c = length-rects (contents t .rects) in
-    let d = slots t in
+length-encode c =
+    let a = length-append (encodeHead c) (encodeRects (c .rects)) in
+    let b = length-head c in
+    let d = length-rects (c .rects) in
     omega arith
+
+pub length-file : (t : Table) → length (encode (contents t)) ≡ 9 + 9 * t .count
+length-file t = let a = length-encode (contents t) in let d = slots t in omega arith
 
 pub rects-snoc : (rs : List Rect) (r : Rect) → encodeRects (rs ++ (r ∷ [])) ≡ encodeRects rs ++ encodeRect r
 unfolding encodeRects

@@ -5,6 +5,7 @@ pub mod Fields
 pub mod Sound
 pub mod Encoded
 pub mod Complete
+pub mod Behind
 pub mod Numbers
 pub mod Taken
 pub mod Theorems

@@ -80,7 +80,7 @@ mark-bytes tag bs e =
     (eqb→eq _ _ (b .0), eqb→eq _ _ (c .0), eqb→eq _ _ (c .1))
 
 -- a field is written out as it was read
-field-again : (left : ℕ) (bs : List ℕ) → Bytes bs → FieldTests left bs → encodeRect (rectOf bs) ++ drop 9 bs ≡ bs
+pub field-again : (left : ℕ) (bs : List ℕ) → Bytes bs → FieldTests left bs → encodeRect (rectOf bs) ++ drop 9 bs ≡ bs
 unfolding encodeRect
 field-again left bs byte f =
     let w = f .whole in
@@ -103,14 +103,19 @@ field-again left bs byte f =
     )
     (ap₂ (λ h l. 2 ∷ 0 ∷ 6 ∷ getD bs 3 0 ∷ getD bs 4 0 ∷ getD bs 5 0 ∷ getD bs 6 0 ∷ h ∷ l ∷ drop 9 bs) (omega arith) (omega arith)))
 
+-- so is a header
+pub header-again : (bs : List ℕ) → HeaderTests bs → encodeHead (headOf bs) ++ drop 9 bs ≡ bs
+unfolding encodeHead
+header-again bs h = let m = mark-bytes 1 bs (h .mark) in sym (nine bs (h .whole) ∙ rw (m .0, m .1, m .2))
+
 -- the weight that two bytes carry has 16 bits
-weight-fits : (bs : List ℕ) → Bytes bs → 9 ≤ length bs → T (fitsSigned 16 (rectOf bs .weight))
+pub weight-fits : (bs : List ℕ) → Bytes bs → 9 ≤ length bs → T (fitsSigned 16 (rectOf bs .weight))
 weight-fits bs byte w =
     let x = byte 7 (omega arith) in
     let y = byte 8 (omega arith) in
     signed-fits 16 (getD bs 7 0 * 256 + getD bs 8 0) (omega arith) (omega arith)
 
-bytes-drop : (n : ℕ) (bs : List ℕ) → Bytes bs → Bytes (drop n bs)
+pub bytes-drop : (n : ℕ) (bs : List ℕ) → Bytes bs → Bytes (drop n bs)
 bytes-drop n bs byte k h =
     let e = length-drop n bs in
     subst (λ x. x < 256) (sym (getD-drop n bs k 0)) (byte (n + k) (omega arith))
@@ -203,9 +208,7 @@ parsed bs c h r =
       most = r .few;
       good = r .good;
       weights = λ byte. r .weights (bytes-drop 9 bs byte);
-      again = λ byte.
-          let m = mark-bytes 1 bs (h .mark) in
-          sym (nine bs (h .whole) ∙ rw (m .0, m .1, m .2) (ap (λ l. 1 ∷ 0 ∷ 6 ∷ getD bs 3 0 ∷ getD bs 4 0 ∷ getD bs 5 0 ∷ getD bs 6 0 ∷ getD bs 7 0 ∷ getD bs 8 0 ∷ l) (sym (r .again (bytes-drop 9 bs byte)))));
+      again = λ byte. ap (λ l. encodeHead (headOf bs) ++ l) (r .again (bytes-drop 9 bs byte)) ∙ header-again bs h;
     }
 
 pub parse-sound : (bs : List ℕ) (c : Contents) → parseOf bs ≡ loaded c → Parsed bs c

@@ -15,18 +15,21 @@ use Rattle.arith.proofs.Alls.{all-of}
 use Rattle.arith.proofs.Bools.{true-of}
 use lib.ListN.{length, getD, take, drop}
 use lib.IntN.{pos}
+use lib.Seq.{take-append-add}
 use Rattle.layout.specs.declared.Table.{Table}
 use Rattle.layout.specs.Contents.{Contents, noRect, contents}
 use Rattle.layout.specs.Answers.{refused as refusal, accepted}
 use Rattle.limits.specs.Limits.{bitsGood, rectGood, valueGood, areasGood, shaped, within, acceptable}
 use Rattle.limits.proofs.Values.{areas-suffice}
-use Rattle.table.specs.Format.{Bytes, Outcome, refused, loaded, parseOf, loadOf, saidOf, tableFrom, readMost, encode}
+use Rattle.table.specs.Format.{Bytes, Outcome, refused, loaded, marked, parseOf, loadOf, saidOf, tableFrom, readMost, encode}
+use Rattle.table.specs.Before.{loadBefore, Overlong, Stray}
 use Rattle.table.specs.Writing.{fileLength, wrote, writeOf}
 use Rattle.table.proofs.Numbers.{Number, Outcomes, loads, fails, number-of, load-numbers}
 use Rattle.table.proofs.Sound.{same-contents, parse-sound, fit-loaded, load-sound}
-use Rattle.table.proofs.Complete.{load-read, encode-bytes}
+use Rattle.table.proofs.Complete.{shaped-of, load-read, encode-bytes}
 use Rattle.table.proofs.Structs.{contents-tableOf}
-use Rattle.table.proofs.Encoded.{length-file}
+use Rattle.table.proofs.Encoded.{length-encode, length-file}
+use Rattle.table.proofs.Behind.{load-behind, before-behind, Compared, alike, overlong, compared}
 use Rattle.table.proofs.Taken.{load-take}
 
 -- L4: every table within the limits is accepted, and written and loaded it is the same table
@@ -37,24 +40,11 @@ every-table-loads c t = load-read c t
 pub written-back : (bs : List ℕ) (c : Contents) → Bytes bs → loadOf bs ≡ loaded c → encode c ≡ bs
 written-back bs c byte e = load-sound bs c e .0 .again byte
 
-abbrev fine : Contents → ℕ → Bool
-fine c k = rectGood (getD (c .rects) k noRect) && fitsSigned 16 (getD (c .rects) k noRect .weight)
-
 -- the table of a file that passes questions 1 to 9 is within the limits but for question 10
 pub parsed-shaped : (bs : List ℕ) (c : Contents) → Bytes bs → parseOf bs ≡ loaded c → T (shaped c)
-unfolding shaped
 parsed-shaped bs c byte e =
     let p = parse-sound bs c e in
-    let h = p .head in
-    rw (
-      h .bits,
-      h .drops,
-      h .word,
-      le-leb 1 _ (p .some),
-      le-leb _ 16 (p .most),
-      true-of (all (length (c .rects)) (fine c)) (all-of (length (c .rects)) (fine c) (λ k l. yes-and (rectGood (getD (c .rects) k noRect)) (fitsSigned 16 (getD (c .rects) k noRect .weight)) (subst T (sym (p .good k l)) tt) (p .weights byte k l))),
-    )
-    tt
+    shaped-of c (record { head = p .head; some = p .some; most = p .most; fine = λ k l. (subst T (sym (p .good k l)) tt, p .weights byte k l) })
 
 -- the table of an accepted file is within the limits
 pub loaded-within : (bs : List ℕ) (c : Contents) → Bytes bs → loadOf bs ≡ loaded c → T (within c)
@@ -127,7 +117,51 @@ pub refused-table : (bs : List ℕ) (n p : ℕ) → loadOf bs ≡ refused n p
 unfolding acceptable within shaped bitsGood writeOf
 refused-table bs n p e = rw e (refl, λ out. refl)
 
--- the first 156 bytes of a file are enough: the table has at most 9 + 9·16 = 153, and of what follows only whether it begins with a
--- field's mark matters
+-- M105-1: behind sixteen rectangles a field's mark is refused with 6, and anything else with 7
+pub after-sixteen : (bs : List ℕ) (o : Overlong bs) → loadOf bs ≡ refused (cond (marked 2 (o .rest)) 6 7) 0
+after-sixteen bs o = ap loadOf (o .is) ∙ load-behind (o .table) (o .rest) (o .good) (o .sixteen) (o .more)
+
+-- and no other file is refused with 6
+pub six-exactly : (bs : List ℕ) → Bytes bs → (loadOf bs ≡ refused 6 0) ↔ ((o : Overlong bs) × (marked 2 (o .rest) ≡ true))
+six-exactly bs byte = (go (compared bs byte), λ h. after-sixteen bs (h .0) ∙ ap (λ m. refused (cond m 6 7) 0) (h .1))
+  where
+    mark : (m : Bool) → refused (cond m 6 7) 0 ≡ refused 6 0 → m ≡ true
+    mark true e = refl
+    mark false e = absurd (let z : _≡_ {A = ℕ} 7 6 = cc in omega arith)
+
+    go : Compared bs → loadOf bs ≡ refused 6 0 → (o : Overlong bs) × (marked 2 (o .rest) ≡ true)
+    go (alike e n) s = absurd (n s)
+    go (overlong o) s = (o, mark (marked 2 (o .rest)) (sym (after-sixteen bs o) ∙ s))
+
+-- M105-2: every file is answered as before, but for those with anything but a field's mark behind sixteen rectangles: 6 became 7
+pub changed-exactly : (bs : List ℕ) → Bytes bs
+    → (¬ Stray bs → loadOf bs ≡ loadBefore bs) × (Stray bs → (loadBefore bs ≡ refused 6 0) × (loadOf bs ≡ refused 7 0))
+changed-exactly bs byte = (go (compared bs byte), λ h. (before (h .0), after-sixteen bs (h .0) ∙ ap (λ m. refused (cond m 6 7) 0) (h .1)))
+  where
+    before : Overlong bs → loadBefore bs ≡ refused 6 0
+    before o = ap loadBefore (o .is) ∙ before-behind (o .table) (o .rest) (o .good) (o .sixteen) (o .more)
+
+    marks : (o : Overlong bs) (m : Bool) → marked 2 (o .rest) ≡ m → ¬ Stray bs → loadOf bs ≡ loadBefore bs
+    marks o true e n = after-sixteen bs o ∙ ap (λ m. refused (cond m 6 7) 0) e ∙ sym (before o)
+    marks o false e n = absurd (n (o, e))
+
+    go : Compared bs → ¬ Stray bs → loadOf bs ≡ loadBefore bs
+    go (alike e n) = λ _. e
+    go (overlong o) = marks o (marked 2 (o .rest)) refl
+
+-- M105-3: the first 156 bytes of a file are enough: the table has at most 9 + 9·16 = 153, and of what follows only whether it begins
+-- with a field's mark matters
 pub first-156 : (bs : List ℕ) → loadOf (take readMost bs) ≡ loadOf bs
 first-156 bs = load-take readMost bs (omega arith)
+
+-- 155 are not: of a mark behind sixteen rectangles they hold two bytes
+pub not-155 : (c : Contents) → T (shaped c) → length (c .rects) ≡ 16
+    → (loadOf (take 155 (encode c ++ (2 ∷ 0 ∷ 6 ∷ []))) ≡ refused 7 0) × (loadOf (encode c ++ (2 ∷ 0 ∷ 6 ∷ [])) ≡ refused 6 0)
+unfolding marked
+not-155 c good sixteen =
+    let n : 155 ≡ length (encode c) + 2 = let l = length-encode c in omega arith in (
+      ap (λ k. loadOf (take k (encode c ++ (2 ∷ 0 ∷ 6 ∷ [])))) n
+          ∙ ap loadOf (take-append-add (encode c) (2 ∷ 0 ∷ 6 ∷ []) 2)
+          ∙ load-behind c (2 ∷ 0 ∷ []) good sixteen (omega arith),
+      load-behind c (2 ∷ 0 ∷ 6 ∷ []) good sixteen (omega arith),
+    )
