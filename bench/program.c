@@ -80,7 +80,7 @@ static void compare(const char *path, unsigned w) {
 
 int main(int argc, char **argv) {
     if (argc != 4) fail("usage: program STRIPFILTER TABLE FOLDER");
-    uint8_t bytes[156];
+    uint8_t bytes[STRIP_FILE_READ];
     FILE *f = fopen(argv[2], "rb");
     if (!f) fail("the table cannot be opened");
     strip_loaded loaded = strip_table_load(bytes, fread(bytes, 1, sizeof bytes, f));

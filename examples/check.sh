@@ -34,6 +34,7 @@ header() { printf '\001\000\006'"$1"; }
     { header '\010\010\000\000\002\020'; printf "$square"; } | says drop_8_of_8
     { header '\010\000\000\000\040\020'; printf "$square"; } | says shift_32
     { head -c 9 "$table"; for k in 1 2 3 4 5 6 7 8 9 10 11 12 13 14 15 16 17; do printf "$square"; done; } | says seventeen
+    { head -c 9 "$table"; for k in 1 2 3 4 5 6 7 8 9 10 11 12 13 14 15 16; do printf "$square"; done; printf '\000'; } | says stray_byte
     head -c 11 "$table" | says cut_off_mark
     { head -c 9 "$table"; printf '\002\000\006\001\001\001\376\000\001'; } | says edges_equal
     head -c 9 "$table" | says header_alone

@@ -20,7 +20,7 @@ static const char *const words[] = {
 /* the number that the check gives for a file, or -1 where it cannot be read */
 static int checked(const char *name)
 {
-    uint8_t bytes[STRIP_FILE_MOST + 1]; /* one byte more than the longest table is enough to refuse it */
+    uint8_t bytes[STRIP_FILE_READ]; /* what follows these changes no answer */
     FILE *file = fopen(name, "rb");
     if (file == NULL)
         return -1;

@@ -41,6 +41,7 @@ extern "C" {
 #define STRIP_DELAY_MOST 15          /* rows that a filtered row can be late, 0 to 15 */
 #define STRIP_KEPT_ROWS 32           /* rows in the sample store */
 #define STRIP_FILE_MOST 153          /* bytes of a table file: 9 + 9 * STRIP_RECTS */
+#define STRIP_FILE_READ 156          /* bytes of any file that decide its answer: STRIP_FILE_MOST and a field mark */
 #define STRIP_LEVELS 256             /* counts of a column, and of the window, in the stores of a ranked scan */
 
 /* A sample that says: this element of the sensor failed. It counts as the nearest live sample to its left in its row, or as zero where
@@ -69,8 +70,8 @@ typedef enum {
     STRIP_BITS = 3,            /* b is not from 1 to 12 */
     STRIP_DROPS = 4,           /* q1 is not below b, or q2 or q3 is above 8 */
     STRIP_WORD = 5,            /* t is above 31, or w is not from 8 to 32 */
-    STRIP_TOO_MANY = 6,        /* a seventeenth rectangle */
-    STRIP_NO_FIELD = 7,        /* a further field does not begin with 02 00 06 */
+    STRIP_TOO_MANY = 6,        /* a field mark after sixteen rectangles */
+    STRIP_NO_FIELD = 7,        /* a further field, after sixteen rectangles too, does not begin with the mark 02 00 06 */
     STRIP_EDGES = 8,           /* a lead outside -15 to 15, a trail outside -16 to 14, or a trail not below its lead */
     STRIP_NO_RECT = 9,         /* no rectangle */
     STRIP_EXTREMES = 10,       /* the largest or the smallest value does not fit the pixel word: without drops by the weight grid, so that
@@ -123,7 +124,8 @@ typedef struct {
     strip_rect rects[STRIP_RECTS];
 } strip_table;
 
-/* Checks the n bytes of a table file: 0, or the number of the refusal, 1 to 10. */
+/* Checks the n bytes of a table file: 0, or the number of the refusal, 1 to 10. A file that is longer than STRIP_FILE_READ bytes is
+   answered like its first STRIP_FILE_READ, so no more need be read; of fewer a longer file may get another answer. */
 uint32_t strip_table_check(const uint8_t *bytes, size_t n);
 
 typedef struct {

@@ -98,6 +98,16 @@ says "a scan cut off" "scan: cut off in row 0" sh -c "head -c 40 '$work/scan.pgm
 says "no PGM" "scan: not a binary PGM" sh -c "echo P2 1 1 1 | '$strip' '$table'"
 "$list" <tables/a.table >"$work/listed"
 same "the listing of Table A" "$work/listed" crates/listing/stdout
+# sixteen rectangles and more bytes: 6 where they begin with a mark, 7 where not; none behind byte 156 is read
+full() { head -c 9 tables/a.table; for k in 1 2 3 4 5 6 7 8 9 10 11 12 13 14 15 16; do printf '\002\000\006\001\001\376\376\000\001'; done; }
+{ full; printf '\002\000\006'; head -c 44 /dev/zero; } >"$work/mark.table"
+{ full; printf '\002\000'; head -c 45 /dev/zero; } >"$work/stray.table"
+for name in mark stray; do
+    case $name in mark) number=6 words="there are more than 16 rectangles" ;; *) number=7 words="a field does not begin with 02 00 06" ;; esac
+    rest=$({ "$list" >"$work/listed"; wc -c; } <"$work/$name.table")
+    [ "$(cat "$work/listed") $rest" = "refused $number 44" ] || fail "listing: $(cat "$work/listed") for $name.table, and $rest of 200 bytes left"
+    says "stripfilter on $name.table" "$work/$name.table: table refused, $number: $words" "$strip" "$work/$name.table"
+done
 "$list" <"$work" >"$work/listed" 2>"$work/said"
 [ -s "$work/said" ] || fail "listing does not say that it cannot read"
 

@@ -140,12 +140,13 @@ pub fn accepted(table: &Table) -> bool {
         && extremes_good(table)
 }
 
-/// The contents of the field at `at`: `number` unless it is marked `tag` 00 06, 2 unless all six bytes are there.
-fn field(bytes: &[u8], at: usize, tag: u8, number: u32) -> Result<[u8; 6], u32> {
-    let rest = &bytes[at..];
-    if rest.len() < 3 || rest[..3] != [tag, 0, 6] {
-        return Err(number);
-    }
+/// Whether a field begins with `tag` 00 06.
+fn marked(rest: &[u8], tag: u8) -> bool {
+    rest.starts_with(&[tag, 0, 6])
+}
+
+/// The six bytes behind a field's mark: 2 unless all are there.
+fn contents(rest: &[u8]) -> Result<[u8; 6], u32> {
     match rest.get(3..FIELD) {
         Some(contents) => Ok(contents.try_into().expect("six bytes")),
         None => Err(2),
@@ -164,7 +165,10 @@ fn rect_of(f: [u8; 6]) -> Rect {
 
 /// The table that a file says, or the number of the first no among questions 1 to 10.
 pub fn load(bytes: &[u8]) -> Result<Table, u32> {
-    let [b, q1, q2, q3, t, w] = field(bytes, 0, 1, 1)?;
+    if !marked(bytes, 1) {
+        return Err(1);
+    }
+    let [b, q1, q2, q3, t, w] = contents(bytes)?;
     let mut table = Table {
         b,
         q1,
@@ -177,10 +181,14 @@ pub fn load(bytes: &[u8]) -> Result<Table, u32> {
     head_question(&table)?;
     let mut at = FIELD;
     while at < bytes.len() {
+        let rest = &bytes[at..];
+        if !marked(rest, 2) {
+            return Err(7);
+        }
         if table.count == MOST_RECTS {
             return Err(6);
         }
-        let rect = rect_of(field(bytes, at, 2, 7)?);
+        let rect = rect_of(contents(rest)?);
         if !rect_good(&rect) {
             return Err(8);
         }

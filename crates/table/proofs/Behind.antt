@@ -8,23 +8,23 @@ use mathlib.Core.Path.{_≡_, refl, sym, ap, _∙_, subst}
 use mathlib.Core.Bool.{Bool, true, false, not, cond, _&&_}
 use mathlib.Core.List.{List, [], _∷_, _++_}
 use lib.Dec.{T, leb, eqb}
-use lib.ListN.{length, getD, drop}
+use lib.ListN.{length, drop}
 use borrow.Author.Tests.{le-leb, leb-true, eq-eqb, ne-eqb}
 use mir.Facts.{and-yes}
 use Rattle.layout.specs.declared.Rect.{Rect}
 use Rattle.layout.specs.declared.Verdict.{Verdict}
 use Rattle.layout.specs.declared.Verdict.the-variants.{Accepted, Refused}
-use Rattle.layout.specs.Contents.{Contents, noRect}
+use Rattle.layout.specs.Contents.{Contents}
 use Rattle.layout.specs.Answers.{Question, asks, firstNo, verdict}
 use Rattle.layout.proofs.Questions.{onVerdict, first-verdict, all-yes}
 use Rattle.limits.specs.Limits.{headAsks, rectGood, valueGood, shaped}
 use Rattle.table.specs.Format.{Bytes, Outcome, refused, loaded, marked, headOf, rectOf, plus, headerAsks, fieldAsks, atEnd, fieldsOf, parseOf, fitOf, loadOf, encodeRect, encodeRects, encodeHead, encode}
 use Rattle.table.specs.Before.{fieldsBefore, loadBefore, Overlong}
-use Rattle.table.proofs.Asked.{FieldTests, field-accepted, HeaderTests, header-accepted}
+use Rattle.table.proofs.Asked.{FieldTests, field-accepted, header-accepted}
 use Rattle.table.proofs.Structs.{with-rects}
-use Rattle.table.proofs.Fields.{fields-end, parse-step}
+use Rattle.table.proofs.Fields.{fields-end}
 use Rattle.table.proofs.Sound.{field-again, header-again, weight-fits, bytes-drop}
-use Rattle.table.proofs.Complete.{Fine, Fines, read-back, long, field-read, field-gone, through, fields-through, head-read, Shaped, shaped-parts, shaped-of}
+use Rattle.table.proofs.Complete.{Fine, Fines, read-back, field-read, field-gone, through, fields-through, head-read, shaped-parts, shaped-of}
 
 -- ---- questions that are not 6
 

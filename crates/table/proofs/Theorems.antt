@@ -4,22 +4,19 @@ use Prim.Native.Nat.{ℕ, _+_, _≤_}
 use native.Mathlib.Omega.{arith}
 use mathlib.Core.Path.{_≡_, refl, sym, ap, _∙_, subst}
 use mathlib.Core.Logic.{_↔_}
-use mathlib.Core.Bool.{Bool, true, false, cond, _&&_}
+use mathlib.Core.Bool.{Bool, true, false, cond}
 use mathlib.Core.List.{List, [], _∷_, _++_}
 use lib.Dec.{T}
 use borrow.Author.Tests.{le-leb}
 use mir.Facts.{yes-and}
-use Rattle.arith.specs.All.{all}
-use Rattle.arith.specs.Twos.{fitsSigned}
-use Rattle.arith.proofs.Alls.{all-of}
 use Rattle.arith.proofs.Bools.{true-of}
-use lib.ListN.{length, getD, take, drop}
+use lib.ListN.{length, take, drop}
 use lib.IntN.{pos}
 use lib.Seq.{take-append-add}
 use Rattle.layout.specs.declared.Table.{Table}
-use Rattle.layout.specs.Contents.{Contents, noRect, contents}
+use Rattle.layout.specs.Contents.{Contents, contents}
 use Rattle.layout.specs.Answers.{refused as refusal, accepted}
-use Rattle.limits.specs.Limits.{bitsGood, rectGood, valueGood, areasGood, shaped, within, acceptable}
+use Rattle.limits.specs.Limits.{bitsGood, valueGood, areasGood, shaped, within, acceptable}
 use Rattle.limits.proofs.Values.{areas-suffice}
 use Rattle.table.specs.Format.{Bytes, Outcome, refused, loaded, marked, parseOf, loadOf, saidOf, tableFrom, readMost, encode}
 use Rattle.table.specs.Before.{loadBefore, Overlong, Stray}

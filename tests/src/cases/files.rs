@@ -279,3 +279,40 @@ pub fn truncated(rng: &mut Rng, tally: &mut Tally, index: u64) -> Outcome {
     }
     Ok(())
 }
+
+/// Bytes that are a further field, the start of one, or neither.
+fn further(rng: &mut Rng, bytes: &mut Vec<u8>) {
+    if rng.one_in(2) {
+        return append(rng, bytes);
+    }
+    let mut field = table::mark(2, std::array::from_fn(|_| rng.next() as u8));
+    if rng.one_in(3) {
+        field[rng.below(3)] = rng.pick(&[0, 1, 2, 3, 4, 6, 7, 255]);
+    }
+    bytes.extend(&field[..rng.below(FIELD) + 1]);
+    if rng.one_in(4) {
+        append(rng, bytes);
+    }
+}
+
+/// The file of sixteen rectangles with bytes behind it: 6 where they begin with a mark, else 7. The first 156 bytes say as much as the
+/// whole file, and of a file that gets 6 the first 155 say something else.
+pub fn behind_sixteen(rng: &mut Rng, tally: &mut Tally, _: u64) -> Outcome {
+    let mut bytes = table::file_of(&gen::table_of(rng, 16));
+    let full = bytes.len();
+    further(rng, &mut bytes);
+    let number = ask(tally, &bytes)?;
+    let tail = &bytes[full..];
+    let marked = tail.starts_with(&[2, 0, 6]);
+    let expected = if marked { 6 } else { 7 };
+    same("behind sixteen rectangles", &number, &expected)?;
+    tally.saw_if("7 after sixteen", !marked);
+    tally.saw_if("6 after sixteen", marked);
+    tally.saw_if("mark cut off after sixteen", tail == [2] || tail == [2, 0]);
+    let first = ask(tally, &bytes[..bytes.len().min(156)])?;
+    same("the first 156 bytes", &first, &number)?;
+    holds(
+        "155 bytes are not enough",
+        !marked || ask(tally, &bytes[..155])? == 7,
+    )
+}

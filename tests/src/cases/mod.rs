@@ -32,7 +32,7 @@ const fn kind(
 }
 
 /// Cases are numbered through in this order.
-pub const KINDS: [Kind; 23] = [
+pub const KINDS: [Kind; 24] = [
     kind("strips of the paper", strips::COUNT, strips::case),
     kind("files at the limits", 60_000, files::limits),
     kind("files at question 10", 10_000, files::question_10),
@@ -40,6 +40,7 @@ pub const KINDS: [Kind; 23] = [
     kind("files at the grid's word", 4_000, files::grid_words),
     kind("damaged files", 60_000, files::damaged),
     kind("files cut at every byte", 1_000, files::truncated),
+    kind("bytes behind sixteen", 20_000, files::behind_sixteen),
     kind("tables by value", 40_000, values::written),
     kind("starts", 15_000, values::started),
     kind("pixels", 40_000, pixels::case),

@@ -11,7 +11,7 @@ use crate::world::Bench;
 
 type Strip = fn(&mut Rng, &mut Tally) -> Outcome;
 
-const STRIPS: [Strip; 15] = [
+const STRIPS: [Strip; 16] = [
     table_a_pixels,
     table_a_words,
     surround,
@@ -19,6 +19,7 @@ const STRIPS: [Strip; 15] = [
     drops,
     row_ends,
     short_files,
+    behind_sixteen,
     limits,
     bright_samples,
     no_rows,
@@ -217,6 +218,23 @@ fn short_files(_: &mut Rng, _: &mut Tally) -> Outcome {
     load_says("header alone", &TABLE_A[..9], 9)?;
     load_says("ends after 02 00", &TABLE_A[..11], 7)?;
     load_says("ends after 02 00 06 and five bytes", &TABLE_A[..17], 2)
+}
+
+fn behind_sixteen(_: &mut Rng, _: &mut Tally) -> Outcome {
+    let one = single(0, -1, [0; 3]);
+    let behind = |rects: usize, tail: &[u8]| {
+        let mut bytes = table::file(table::head_of(&one), &vec![one.rects[0]; rects]);
+        bytes.extend(tail);
+        bytes
+    };
+    load_says("sixteen, then 00", &behind(16, &[0]), 7)?;
+    load_says("sixteen, then 02", &behind(16, &[2]), 7)?;
+    load_says("sixteen, then 02 00", &behind(16, &[2, 0]), 7)?;
+    load_says("sixteen, then 02 00 06", &behind(16, &[2, 0, 6]), 6)?;
+    let edges = [2, 0, 6, 1, 1, 1, 1, 0, 1];
+    load_says("sixteen, then bad edges", &behind(16, &edges), 6)?;
+    load_says("sixteen, then 01 00 06", &behind(16, &[1, 0, 6]), 7)?;
+    load_says("three, then 00", &behind(3, &[0]), 7)
 }
 
 fn limits(rng: &mut Rng, tally: &mut Tally) -> Outcome {
