@@ -33,7 +33,7 @@ without-six [] = true
 without-six (q ∷ qs) = not (eqb (q .number) 6) && without-six qs
 
 -- where none of the questions is 6, only what follows them can be refused with 6
-pub later-six : (qs : List Question) (next : Outcome) → T (without-six qs) → firstNo qs refused next ≡ refused 6 0 → next ≡ refused 6 0
+later-six : (qs : List Question) (next : Outcome) → T (without-six qs) → firstNo qs refused next ≡ refused 6 0 → next ≡ refused 6 0
 later-six [] next t e = e
 later-six (q ∷ qs) next t e = go (later-six qs next (a .1)) (q .holds) e
   where
@@ -126,7 +126,8 @@ reach-field : (left : ℕ) (bs : List ℕ) (c : Contents) → Bytes bs → 0 < l
     → (v : Verdict) → verdict (asked bs) ≡ v → Reach (suc left) bs c
 reach-field left bs c byte h r Accepted v =
     let y = all-yes (asked bs) v in
-    reach-accepted left bs c byte h (record { mark = y .0; room = omega arith; whole = leb-true _ _ (y .1 .0); edges = y .1 .1 .0 }) r
+    let f : FieldTests (suc left) bs = record { mark = y .0; room = omega arith; whole = leb-true _ _ (y .1 .0); edges = y .1 .1 .0 } in
+    reach-accepted left bs c byte h f r
 reach-field left bs c byte h r (Refused n p) v = reach-refused left bs c n p h v
 
 reach : (left : ℕ) (bs : List ℕ) (c : Contents) → Bytes bs → Reach left bs c
