@@ -1,4 +1,3 @@
-pub mod Commands
 pub mod Window
 pub mod Judging
 pub mod Moves

@@ -24,8 +24,8 @@ use Rattle.filtering.specs.declared.Fault.the-variants.{
   Sample,
   Engine,
 }
-use Rattle.filtering.specs.declared.Command.{Command}
-use Rattle.filtering.specs.declared.Command.the-variants.{Filter, Ranked, Help, Version, Unknown, NoNumber, Usage}
+use Rattle.commands.specs.declared.Command.{Command}
+use Rattle.commands.specs.declared.Command.the-variants.{Filter, Ranked, Help, Version, Unknown, NoNumber, Usage}
 
 -- the lines, from 0 on; each # stands for a number
 unfoldable pub faultLines : List String

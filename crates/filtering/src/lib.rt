@@ -1,11 +1,10 @@
-// What stripfilter decides, each call one equation with a definition of specs/: the words of the command line, whether the table
-// and the scan's header are taken, how many bytes to read and how many samples to hand to the engine, and what is said of a fault,
-// byte for byte. Nothing here reads or writes; the program moves the bytes between these calls.
+// What stripfilter decides, each call one equation with a definition of specs/: whether the table and the scan's header are taken,
+// how many bytes to read and how many samples to hand to the engine, and what is said of a fault, byte for byte. Nothing here reads
+// or writes; the program moves the bytes between these calls.
 mod judging;
 mod moving;
 mod saying;
 mod window;
-mod words;
 
 pub use judging::judge;
 pub use judging::row_fault;
@@ -18,45 +17,6 @@ pub use moving::whole_part;
 pub use saying::put_answer;
 pub use saying::put_fault;
 pub use window::centred;
-pub use words::ended;
-pub use words::next;
-
-// A word of the command line.
-pub enum Word {
-    Values,
-    Rank,
-    Help,
-    Version,
-    // begins with - and is none of these
-    Option,
-    // digits; 65,536 stands for whatever is larger
-    Number(u32),
-    // anything else names a table
-    Table,
-}
-
-// What the words of the command line come to.
-pub enum Command {
-    // filter by the table that word `1` names, 0 while there is none; the first says whether values are asked for
-    Filter(bool, usize),
-    // filter by a ranked window; the first says whether values are asked for
-    Ranked(bool, Ranking),
-    Help,
-    Version,
-    // the word at this place is no option; no number
-    Unknown(usize),
-    NoNumber(usize),
-    // no table, or two; fewer or more than three numbers
-    Usage,
-}
-
-// The numbers after --rank: how many of the three were given, R, and the rows and columns of the window.
-pub struct Ranking {
-    pub given: u32,
-    pub rank: u32,
-    pub rows: u32,
-    pub columns: u32,
-}
 
 // The edges of a window along rows or columns.
 pub struct Edges {

@@ -5,7 +5,7 @@ ghost use lib.Dec.{T};
 ghost use Rattle.io.specs.Counts.{Counts};
 ghost use Rattle.filtering.specs.Judging.{Accepts};
 use crate::output;
-use filtering::Command;
+use commands::Command;
 use filtering::Job;
 use filtering::Judged;
 use libc::STDIN_FILENO;
@@ -17,7 +17,7 @@ use streams::gather;
 fn with_word(c: Command, i: usize) -> Command {
     let mut word = io::buffer();
     let n = os::arg(i, &mut word);
-    filtering::next(c, i, &word[..n])
+    commands::next(c, i, &word[..n])
 }
 
 // What the words of the command line come to.
@@ -29,7 +29,7 @@ pub fn command() -> Command {
         c = with_word(c, i);
         i += 1;
     }
-    filtering::ended(c)
+    commands::ended(c)
 }
 
 // The bytes of a table file, no more than loading needs. Where it cannot be opened or read, a line says why.

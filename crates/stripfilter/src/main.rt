@@ -8,7 +8,7 @@ mod ranks;
 mod rows;
 
 ghost use Rattle.filtering.specs.Judging.{Accepts};
-use filtering::Command;
+use commands::Command;
 use filtering::Fault;
 use filtering::Job;
 use layout::Table;

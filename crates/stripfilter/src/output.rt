@@ -2,7 +2,7 @@
 ghost use Prim.Native.Nat.{_*_, _≤_};
 ghost use lib.ListN.{length};
 ghost use Rattle.filtering.specs.Judging.{Accepts};
-use filtering::Command;
+use commands::Command;
 use filtering::Fault;
 use filtering::Job;
 use filtering::put_answer;

@@ -1,6 +1,6 @@
 // The words of the command line.
 ghost use mathlib.Core.Path.{_≡_};
-ghost use Rattle.filtering.specs.Commands.{same as Commands·same, plainOf, wordOf, tableAt, rankAfter, numberedOf, nextOf, endedOf};
+ghost use Rattle.commands.specs.Commands.{same as Commands·same, plainOf, wordOf, tableAt, rankAfter, numberedOf, nextOf, endedOf};
 use crate::Command;
 use crate::Ranking;
 use crate::Word;

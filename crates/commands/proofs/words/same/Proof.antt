@@ -7,11 +7,11 @@ use mathlib.Core.Path.{_≡_, refl, sym, _∙_}
 use lib.ListN.{length, drop}
 use denote.Ref.{now}
 use borrow.Author.Tests.{eq-eqb, ne-eqb}
-use Rattle.filtering.specs.Commands.{same}
-use Rattle.filtering.proofs.Alike.{unlike-lengths, same-on, same-off, same-end}
+use Rattle.commands.specs.Commands.{same}
+use Rattle.commands.proofs.Alike.{unlike-lengths, same-on, same-off, same-end}
 use borrow.Author.Needs.{needs}
-use Rattle.filtering.proofs.words.same.Statement.{statement}
-use Rattle.filtering.proofs.words.same.Tie as tie
+use Rattle.commands.proofs.words.same.Statement.{statement}
+use Rattle.commands.proofs.words.same.Tie as tie
 
 abbrev Inv-loop : tie.InvT-loop
 Inv-loop a b i₀ i = (i ≤ length a) × (length a ≡ length b) × (same (drop i a) (drop i b) ≡ same a b)

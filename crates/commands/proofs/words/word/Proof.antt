@@ -3,10 +3,10 @@
 use mathlib.Core.Path.{_≡_, refl, sym, _∙_}
 use mathlib.Core.Bool.{Bool, true, false}
 use Rattle.text.specs.Ascii.{ascii}
-use Rattle.filtering.specs.Commands.{wordOf}
+use Rattle.commands.specs.Commands.{wordOf}
 use borrow.Author.Needs.{needs}
-use Rattle.filtering.proofs.words.word.Statement.{statement}
-use Rattle.filtering.proofs.words.word.Tie as tie
+use Rattle.commands.proofs.words.word.Statement.{statement}
+use Rattle.commands.proofs.words.word.Tie as tie
 
 yes-is : {g t : Bool} → g ≡ t → g ≡ true → t ≡ true
 yes-is e h = sym e ∙ h

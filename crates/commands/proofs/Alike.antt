@@ -8,7 +8,7 @@ use mathlib.Core.List.{List, [], _∷_}
 use lib.Dec.{eqb}
 use lib.ListN.{length, getD, drop, drop-of-length-le}
 use lib.Seq.{drop-cons}
-use Rattle.filtering.specs.Commands.{same}
+use Rattle.commands.specs.Commands.{same}
 
 pub unlike-lengths : (a b : List ℕ) → (length a ≡ length b → ⊥) → false ≡ same a b
 unfolding same

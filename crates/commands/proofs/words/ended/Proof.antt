@@ -2,10 +2,10 @@
 -- Assumes nothing.
 use mathlib.Core.Path.{refl}
 use borrow.Author.Tests.{eq-eqb, ne-eqb}
-use Rattle.filtering.specs.Commands.{endedOf}
+use Rattle.commands.specs.Commands.{endedOf}
 use borrow.Author.Needs.{needs}
-use Rattle.filtering.proofs.words.ended.Statement.{statement}
-use Rattle.filtering.proofs.words.ended.Tie as tie
+use Rattle.commands.proofs.words.ended.Statement.{statement}
+use Rattle.commands.proofs.words.ended.Tie as tie
 
 enum-known-c : tie.Need-enum-known-c
 enum-known-c c = search needs

@@ -7,11 +7,11 @@ use lib.Dec.{eqb}
 use lib.ListN.{length, getD}
 use Rattle.text.specs.Ascii.{ascii}
 use Rattle.pgm.specs.Grammar.{digits, number}
-use Rattle.filtering.specs.declared.Word.{Word}
-use Rattle.filtering.specs.declared.Word.the-variants.{Values, Rank, Help as AskHelp, Version as AskVersion, Option, Number, Table}
-use Rattle.filtering.specs.declared.Ranking.{Ranking}
-use Rattle.filtering.specs.declared.Command.{Command}
-use Rattle.filtering.specs.declared.Command.the-variants.{Filter, Ranked, Help, Version, Unknown, NoNumber, Usage}
+use Rattle.commands.specs.declared.Word.{Word}
+use Rattle.commands.specs.declared.Word.the-variants.{Values, Rank, Help as AskHelp, Version as AskVersion, Option, Number, Table}
+use Rattle.commands.specs.declared.Ranking.{Ranking}
+use Rattle.commands.specs.declared.Command.{Command}
+use Rattle.commands.specs.declared.Command.the-variants.{Filter, Ranked, Help, Version, Unknown, NoNumber, Usage}
 
 unfoldable pub same : List ℕ → List ℕ → Bool
 same [] [] = true

@@ -1,10 +1,10 @@
--- A table is named once.
+-- No table may be named.
 -- Assumes nothing.
 use mathlib.Core.Path.{refl}
 use borrow.Author.Tests.{eq-eqb, ne-eqb}
 use borrow.Author.Needs.{needs}
-use Rattle.filtering.proofs.words.table_at.Statement.{statement}
-use Rattle.filtering.proofs.words.table_at.Tie as tie
+use Rattle.commands.proofs.words.rank_after.Statement.{statement}
+use Rattle.commands.proofs.words.rank_after.Tie as tie
 
 returns : tie.Need-returns
 returns c = rw (eq-eqb _ _ (c .if1 .taken)) refl
@@ -12,5 +12,5 @@ returns c = rw (eq-eqb _ _ (c .if1 .taken)) refl
 returns-2 : tie.Need-returns-2
 returns-2 c = rw (ne-eqb _ _ (c .if1 .left)) refl
 
-pub table-at-spec : {M : Type 1} → statement M
-table-at-spec = tie.close (tie.spec returns returns-2)
+pub rank-after-spec : {M : Type 1} → statement M
+rank-after-spec = tie.close (tie.spec returns returns-2)

@@ -6,9 +6,9 @@ use mathlib.Core.Bool.{true, false}
 use mathlib.Core.List.{List, [], _∷_}
 use Rattle.text.specs.Ascii.{ascii}
 use Rattle.pgm.specs.Grammar.{digit, digits, number}
-use Rattle.filtering.specs.declared.Word.the-variants.{Values, Number, Table}
-use Rattle.filtering.specs.declared.Command.the-variants.{Filter, Ranked}
-use Rattle.filtering.specs.Commands.{same, plainOf, wordOf, numberedOf, nextOf, endedOf, commandOf}
+use Rattle.commands.specs.declared.Word.the-variants.{Values, Number, Table}
+use Rattle.commands.specs.declared.Command.the-variants.{Filter, Ranked}
+use Rattle.commands.specs.Commands.{same, plainOf, wordOf, numberedOf, nextOf, endedOf, commandOf}
 
 values-word : wordOf (ascii "--values") ≡ Values
 unfolding ascii same wordOf

@@ -7,11 +7,11 @@ use mathlib.Core.List.{List}
 use lib.ListN.{length, getD, drop}
 use borrow.Author.Tests.{eq-eqb, ne-eqb}
 use Rattle.pgm.specs.Grammar.{digits, number}
-use Rattle.filtering.specs.declared.Word.the-variants.{Number, Table}
-use Rattle.filtering.specs.Commands.{plainOf}
+use Rattle.commands.specs.declared.Word.the-variants.{Number, Table}
+use Rattle.commands.specs.Commands.{plainOf}
 use borrow.Author.Needs.{needs}
-use Rattle.filtering.proofs.words.plain.Statement.{statement}
-use Rattle.filtering.proofs.words.plain.Tie as tie
+use Rattle.commands.proofs.words.plain.Statement.{statement}
+use Rattle.commands.proofs.words.plain.Tie as tie
 
 -- a word with bytes that does not begin with -, and how many digits it begins with
 module _ (w : List ℕ) (some : length w ≡ 0 → ⊥) (plain : getD w 0 0 ≡ 45 → ⊥) (e : ℕ) (d : e ≡ 0 + digits (drop 0 w)) where

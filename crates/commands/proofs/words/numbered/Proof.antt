@@ -2,10 +2,10 @@
 -- Assumes nothing.
 use mathlib.Core.Path.{refl}
 use borrow.Author.Tests.{eq-eqb, ne-eqb}
-use Rattle.filtering.specs.Commands.{numberedOf}
+use Rattle.commands.specs.Commands.{numberedOf}
 use borrow.Author.Needs.{needs}
-use Rattle.filtering.proofs.words.numbered.Statement.{statement}
-use Rattle.filtering.proofs.words.numbered.Tie as tie
+use Rattle.commands.proofs.words.numbered.Statement.{statement}
+use Rattle.commands.proofs.words.numbered.Tie as tie
 
 returns : tie.Need-returns
 unfolding numberedOf

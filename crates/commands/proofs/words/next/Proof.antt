@@ -1,10 +1,10 @@
 -- By what the words before came to.
 -- Assumes nothing.
 use mathlib.Core.Path.{refl, sym}
-use Rattle.filtering.specs.Commands.{nextOf}
+use Rattle.commands.specs.Commands.{nextOf}
 use borrow.Author.Needs.{needs}
-use Rattle.filtering.proofs.words.next.Statement.{statement}
-use Rattle.filtering.proofs.words.next.Tie as tie
+use Rattle.commands.proofs.words.next.Statement.{statement}
+use Rattle.commands.proofs.words.next.Tie as tie
 
 word-requires : tie.Need-word-requires
 word-requires c κs = search needs
