@@ -125,7 +125,7 @@ typedef struct {
 } strip_table;
 
 /* Checks the n bytes of a table file: 0, or the number of the refusal, 1 to 10. A file that is longer than STRIP_FILE_READ bytes is
-   answered like its first STRIP_FILE_READ, so no more need be read; of fewer a longer file may get another answer. */
+   answered like its first STRIP_FILE_READ, so no more need be read; whoever reads less of a longer file may get another answer. */
 uint32_t strip_table_check(const uint8_t *bytes, size_t n);
 
 typedef struct {

@@ -84,7 +84,7 @@ fitOf (loaded c) = firstNo (asks 10 (valueGood c) ∷ []) refused (loaded c)
 unfoldable pub loadOf : List ℕ → Outcome
 loadOf bs = fitOf (parseOf bs)
 
--- how many bytes of a file are enough to load it: three more than the longest table has, which are a mark or are none
+-- how many bytes of a file are enough to load it: those of the longest table and a mark
 abbrev pub readMost : ℕ
 readMost = 156
 
