@@ -45,6 +45,14 @@ later-six (q ∷ qs) next t e = go (later-six qs next (a .1)) (q .holds) e
     go later true h = later h
     go later false h = absurd (subst T (ap not (eq-eqb (q .number) 6 (let n : q .number ≡ 6 = cc in n))) (a .0))
 
+-- questions that refuse do so whatever follows them
+refused-by : (qs : List Question) {n p : ℕ} → verdict qs ≡ Refused n p → (next : Outcome) → firstNo qs refused next ≡ refused n p
+refused-by qs v next = first-verdict qs refused next ∙ ap (λ x. onVerdict x refused next) v
+
+-- and not with 6 where none of them is 6
+not-by-six : (qs : List Question) {n p : ℕ} → T (without-six qs) → verdict qs ≡ Refused n p → ¬ (refused n p ≡ refused 6 0)
+not-by-six qs t v e = let s = later-six qs (refused 7 0) t (refused-by qs v _ ∙ e) in absurd (let z : _≡_ {A = ℕ} 7 6 = cc in omega arith)
+
 -- ---- the fields in both orders
 
 -- questions 7, 2 and 8
@@ -102,10 +110,8 @@ reach-end left bs c z =
 -- a field that is refused is refused alike
 reach-refused : (left : ℕ) (bs : List ℕ) (c : Contents) (n p : ℕ) → 0 < length bs → verdict (asked bs) ≡ Refused n p → Reach (suc left) bs c
 reach-refused left bs c n p h v =
-    let is : (next : Outcome) → firstNo (asked bs) refused next ≡ refused n p = λ next. first-verdict (asked bs) refused next ∙ ap (λ x. onVerdict x refused next) v in
-    let o = of-step left bs c h ∙ is _ in
-    alike (o ∙ sym (before-step left bs c h ∙ is _))
-    (λ e. let s = later-six (asked bs) (refused 7 0) tt (is _ ∙ sym o ∙ e) in absurd (let z : _≡_ {A = ℕ} 7 6 = cc in omega arith))
+    let o = of-step left bs c h ∙ refused-by (asked bs) v _ in
+    alike (o ∙ sym (before-step left bs c h ∙ refused-by (asked bs) v _)) (λ e. not-by-six (asked bs) tt v (sym o ∙ e))
 
 -- a field that is accepted is its rectangle's, and the fields behind it decide
 reach-accepted : (left : ℕ) (bs : List ℕ) (c : Contents) → Bytes bs → 0 < length bs → FieldTests (suc left) bs
@@ -176,14 +182,14 @@ fit-six : (o : Outcome) → fitOf o ≡ refused 6 0 → o ≡ refused 6 0
 fit-six (refused n p) e = e
 fit-six (loaded c) e = later-six (asks 10 (valueGood c) ∷ []) (loaded c) tt e
 
-header-six : (bs : List ℕ) (next : Outcome) → firstNo (headerAsks bs) refused next ≡ refused 6 0 → next ≡ refused 6 0
+header-not-six : (bs : List ℕ) → T (without-six (headerAsks bs))
 unfolding headerAsks headAsks
-header-six bs next e = later-six (headerAsks bs) next tt e
+header-not-six bs = tt
 
 compared-fields : (bs : List ℕ) → fieldsOf 16 (drop 9 bs) (headOf bs) ≡ fieldsBefore 16 (drop 9 bs) (headOf bs)
     → ¬ (fieldsOf 16 (drop 9 bs) (headOf bs) ≡ refused 6 0) → Compared bs
 unfolding loadOf parseOf loadBefore
-compared-fields bs e n = alike (ap (λ o. fitOf (firstNo (headerAsks bs) refused o)) e) (λ s. n (header-six bs _ (fit-six _ s)))
+compared-fields bs e n = alike (ap (λ o. fitOf (firstNo (headerAsks bs) refused o)) e) (λ s. n (later-six (headerAsks bs) _ (header-not-six bs) (fit-six _ s)))
 
 compared-header : (bs : List ℕ) (rs : List Rect) (rest : List ℕ) → length rs ≡ 16 → Fines rs → 0 < length rest → drop 9 bs ≡ encodeRects rs ++ rest
     → (v : Verdict) → verdict (headerAsks bs) ≡ v → Compared bs
@@ -199,9 +205,8 @@ compared-header bs rs rest l fine more e Accepted v =
       is = sym (header-again bs h) ∙ ap (λ x. encodeHead (headOf bs) ++ x) e;
     }
 compared-header bs rs rest l fine more e (Refused n p) v =
-    let is : (next : Outcome) → firstNo (headerAsks bs) refused next ≡ refused n p = λ next. first-verdict (headerAsks bs) refused next ∙ ap (λ x. onVerdict x refused next) v in
-    alike (ap fitOf (is _ ∙ sym (is _)))
-    (λ s. let h = header-six bs (refused 7 0) (is _ ∙ sym (ap fitOf (is _)) ∙ s) in absurd (let z : _≡_ {A = ℕ} 7 6 = cc in omega arith))
+    let is = refused-by (headerAsks bs) v in
+    alike (ap fitOf (is _ ∙ sym (is _))) (λ s. not-by-six (headerAsks bs) (header-not-six bs) v (sym (ap fitOf (is _)) ∙ s))
 
 pub compared : (bs : List ℕ) → Bytes bs → Compared bs
 compared bs byte = go (reach 16 (drop 9 bs) (headOf bs) (bytes-drop 9 bs byte))
