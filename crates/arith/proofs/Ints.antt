@@ -5,13 +5,15 @@ use native.Mathlib.Omega.{arith}
 use native.Mathlib.Nat.{lt-suc-self, le-step, pow-suc}
 use mathlib.Core.Path.{_≡_, refl, sym, ap, _∙_, subst}
 use mathlib.Core.Bool.{Bool, true, false, not, cond}
-use lib.Dec.{T, ltb, leb, ltb→lt, nltb→le, leb→le, le→leb, lt→ltb}
+use lib.Dec.{T, ltb, leb, eqb, ltb→lt, nltb→le, leb→le, le→leb, lt→ltb, eqb→eq, eqb-refl}
 use lib.IntN.{ℤ, pos, negsuc, negℤ, subℕ, _+ℤ_, _-ℤ_, _*ℤ_, natAbs}
 use lib.Signed.{_≤ℤ_, _<ℤ_, leZ, ltZ, mag}
-use borrow.Author.Tests.{lt-ltb, le-ltb}
+use mir.Facts.{and-yes, yes-and}
+use borrow.Author.Tests.{lt-ltb, le-ltb, eq-eqb}
 use Rattle.arith.proofs.Bools.{bool-eq}
 use Rattle.arith.specs.Sum.{sum, sumℤ}
 use Rattle.arith.specs.Diff.{Diff}
+use Rattle.arith.specs.Equal.{eqZ}
 use Rattle.arith.specs.Part.{posPart, negPart}
 
 -- ---- making one
@@ -104,6 +106,26 @@ diff-leZ {y} {z} d e =
 pub diff-ltZ : {y z : ℤ} {p n q m : ℕ} → Diff y p n → Diff z q m → ltZ y z ≡ ltb (p + m) (q + n)
 diff-ltZ {y} {z} d e =
     bool-eq _ _ (λ t. lt→ltb _ _ (lt-diff d e (record { lt = t }))) (λ t. diff-lt d e (ltb→lt _ _ t) .lt)
+
+pub diff-eqZ : {y z : ℤ} {p n q m : ℕ} → Diff y p n → Diff z q m → eqZ y z ≡ eqb (p + m) (q + n)
+unfolding eqZ
+diff-eqZ {y} {z} {p} {n} {q} {m} d e =
+    rw (diff-leZ d e, diff-leZ e d)
+    (bool-eq _ _
+    (λ t.
+    let h = and-yes (leb (p + m) (q + n)) (leb (q + n) (p + m)) t in
+    let i = leb→le (p + m) (q + n) (h .0) in
+    let j = leb→le (q + n) (p + m) (h .1) in
+    rw (eq-eqb (p + m) (q + n) (omega arith)) tt)
+    (λ t.
+    let i = eqb→eq (p + m) (q + n) t in
+    yes-and (leb (p + m) (q + n)) (leb (q + n) (p + m)) (le→leb (p + m) (q + n) (omega arith)) (le→leb (q + n) (p + m) (omega arith))))
+
+pub eqZ→eq : (y z : ℤ) → T (eqZ y z) → y ≡ z
+eqZ→eq y z t = diff-eq (diff-parts y) (diff-parts z) (eqb→eq _ _ (subst T (diff-eqZ (diff-parts y) (diff-parts z)) t))
+
+pub eq→eqZ : {y z : ℤ} → y ≡ z → T (eqZ y z)
+eq→eqZ {y} {z} e = subst (λ x. T (eqZ y x)) e (subst T (sym (diff-eqZ (diff-parts y) (diff-parts y))) (eqb-refl (posPart y + negPart y)))
 
 -- the size is within what bounds both numbers
 pub diff-size : {z : ℤ} {p n : ℕ} (b : ℕ) → Diff z p n → p < b → n ≤ b → mag z < b

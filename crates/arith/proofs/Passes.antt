@@ -25,7 +25,7 @@ module _ {A : Type 0} where
       omega arith
 
   -- a place that the pass has not reached
-  pass-next : (n : ℕ) (f : ℕ → A) (xs : List A) (k : ℕ) (d : A) → n ≤ k → getD (tab n f ++ drop n xs) k d ≡ getD xs k d
+  pub pass-next : (n : ℕ) (f : ℕ → A) (xs : List A) (k : ℕ) (d : A) → n ≤ k → getD (tab n f ++ drop n xs) k d ≡ getD xs k d
   pass-next n f xs k d h =
       let l = length-tab n f in
       let e : k ≡ length (tab n f) + (k - n) = omega arith in

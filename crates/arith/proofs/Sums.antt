@@ -4,7 +4,7 @@ use Prim.Native.Nat.{ℕ, zero, suc, _+_, _-_, _*_, _≤_, _<_, zero-le}
 use native.Mathlib.Nat.{le-step, lt-suc-self, le-suc-iff, suc-inj, not-suc-le-zero, add-suc, add-zero}
 use native.Mathlib.Omega.{arith}
 use mathlib.Core.Path.{_≡_, refl, sym, ap, _∙_}
-use mathlib.Core.Logic.{⊎-elim}
+use mathlib.Core.Logic.{⊎-elim, _≢_}
 use Rattle.arith.specs.Sum.{sum}
 
 -- what holds of each index below n + 1 holds of each below n
@@ -90,3 +90,14 @@ sum-swap (suc m) n f =
     let p = sum-swap m n f in
     let q = sum-add n (λ j. sum m (λ i. f i j)) (f m) in
     omega arith
+
+-- only term k counts, and the others are 0
+pub sum-one : (n : ℕ) (f : ℕ → ℕ) (k : ℕ) → k < n → ((j : ℕ) → j < n → j ≢ k → f j ≡ 0) → sum n f ≡ f k
+sum-one n f k h none =
+    let e : n ≡ k + suc (n - suc k) = omega arith in
+    let s = sum-split k (suc (n - suc k)) f in
+    let t = sum-first (n - suc k) (λ j. f (k + j)) in
+    let a : sum k f ≡ 0 = sum-zero k (λ j l. none j (omega arith) (λ i. absurd (omega arith))) in
+    let b : sum (n - suc k) (λ j. f (k + suc j)) ≡ 0 = sum-zero (n - suc k) (λ j l. none (k + suc j) (omega arith) (λ i. absurd (omega arith))) in
+    let c : f (k + 0) ≡ f k = ap f (omega arith) in
+    ap (λ m. sum m f) e ∙ s ∙ omega arith

@@ -5,6 +5,7 @@ pub mod First
 pub mod Tab
 pub mod Part
 pub mod Diff
+pub mod Equal
 pub mod Twos
 pub mod Floor
 pub mod Log

@@ -7,9 +7,8 @@ use lib.Dec.{eqb}
 use lib.ListN.{getD}
 use lib.IntN.{ℤ, pos}
 use Rattle.arith.specs.Part.{posPart}
-use Rattle.layout.specs.Answers.{Said, Left}
+use Rattle.layout.specs.Answers.{Said, Left, Wrote}
 use Rattle.table.specs.Format.{Handed as Loading}
-use Rattle.table.specs.Writing.{Wrote}
 use Rattle.scan.specs.declared.Scan.{Scan}
 use Rattle.scan.specs.Calls.{World}
 use Rattle.cstructs.specs.declared.answers.Refusal.{Refusal}

@@ -90,3 +90,11 @@ pub record Left (S : Type 0) : Type 0 where
 
 abbrev pub left : {S : Type 0} → Said → S → (out : List ℤ) → Left S
 left said state out = record { said = said; state = state; out = out }
+
+-- what a call leaves that only writes: what it says, and the output
+pub record Wrote : Type 0 where
+  pub said : Said
+  pub out : List ℕ
+
+abbrev pub wrote : Said → (out : List ℕ) → Wrote
+wrote said out = record { said = said; out = out }

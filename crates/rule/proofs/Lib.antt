@@ -3,6 +3,7 @@ pub mod Dropped
 pub mod Accurate
 pub mod Spread
 pub mod Fitting
+pub mod Centred
 pub mod Peaks
 pub mod Depends
 pub mod Asked

@@ -1,28 +1,23 @@
 -- Question 10 of a table without drops, exactly: its extremes are the centre values of two scans, and no scan passes them.
 -- Assumes nothing.
-use Prim.Native.Nat.{ℕ, zero, suc, _+_, _-_, _*_, _/_, _%_, _^_, _≤_, _<_, zero-le}
-use native.Mathlib.Nat.{div-add-mod, mod-lt}
+use Prim.Native.Nat.{ℕ, zero, suc, _-_, _*_, _^_, _≤_, _<_, zero-le}
 use native.Mathlib.Omega.{arith}
 use mathlib.Core.Path.{_≡_, refl, sym, ap, _∙_, subst}
-use mathlib.Core.Bool.{Bool, true, false, not, cond, _&&_}
-use mathlib.Core.List.{List, [], append-nil}
+use mathlib.Core.Bool.{Bool, true, false, cond, _&&_}
+use mathlib.Core.List.{List}
 use mathlib.Core.Logic.{_↔_}
 use lib.Dec.{T, ltb}
 use lib.IntN.{ℤ, pos, negsuc, negℤ, _+ℤ_}
-use lib.ListN.{length, getD}
+use lib.ListN.{length}
 use lib.Pow.{pow-mono}
 use borrow.Author.Tests.{lt-ltb}
 use Rattle.arith.specs.All.{all}
 use Rattle.arith.specs.Floor.{floorDiv}
 use Rattle.arith.specs.Part.{posPart, negPart}
 use Rattle.arith.specs.Sum.{sum}
-use Rattle.arith.specs.Tab.{grid}
 use Rattle.arith.specs.Twos.{fitsSigned}
-use Rattle.arith.proofs.Alls.{all-of}
-use Rattle.arith.proofs.Bools.{true-of}
-use Rattle.arith.proofs.Grids.{grid-at}
 use Rattle.arith.proofs.Passes.{length-grid}
-use Rattle.arith.proofs.Ints.{diff-pos, diff-neg, diff-sub, diff-add, diff-eq}
+use Rattle.arith.proofs.Ints.{diff-pos, diff-neg, diff-eq}
 use Rattle.arith.proofs.Sums.{sum-cong, sum-zero, sum-scale}
 use Rattle.layout.specs.declared.Table.{Table}
 use Rattle.layout.specs.Contents.{contents, rect}
@@ -35,12 +30,8 @@ use Rattle.rule.specs.Sums.{sampleAt}
 use Rattle.rule.specs.Pixels.{cutValue, pixelOf}
 use Rattle.rule.specs.Extremes.{Outside}
 use Rattle.rule.proofs.Asked.{has-bits}
+use Rattle.rule.proofs.Centred.{centred-good, centred-image}
 use Rattle.rule.proofs.Fitting.{entries, value-good-fits}
-use Rattle.rule.proofs.Mended.{mended-live, small-good}
-
--- the place of an offset from the centre
-centre : (a : ℕ) → pos 15 +ℤ offset a ≡ pos a
-centre a = diff-eq (diff-add (diff-pos 15) (diff-sub a 15)) (diff-pos a) (omega arith)
 
 -- ---- the scan that is as bright as can be where an entry has a part of one sign
 
@@ -64,33 +55,17 @@ module _ (part : ℤ → ℕ) (t : Table) where
       go true = omega arith
       go false = zero-le
 
-  peak-at : (a b : ℕ) → a < 31 → b < 31 → getD scan (a * 31 + b) 0 ≡ lit a b
+  peak-good : all (length scan) (sampleGood top scan) ≡ true
   unfolding peak
-  peak-at a b h l = ap (λ xs. getD xs (a * 31 + b) 0) (sym (append-nil (grid 31 31 lit))) ∙ grid-at 31 31 lit [] 0 a b h l
+  peak-good = centred-good lit lit-most
 
   peak-long : length scan ≡ 31 * 31
   unfolding peak
   peak-long = length-grid 31 31 lit
 
-  peak-good : all (length scan) (sampleGood top scan) ≡ true
-  peak-good =
-      true-of _
-      (all-of (length scan) (sampleGood top scan)
-      (λ k h.
-      let n = peak-long in
-      let d = div-add-mod k 31 in
-      let m = mod-lt k {m = 31} (omega arith) in
-      let e : k ≡ k / 31 * 31 + k % 31 = omega arith in
-      let z = ap (λ i. getD scan i 0) e ∙ peak-at (k / 31) (k % 31) (omega arith) m in
-      small-good {x = getD scan k 0} {m = top} (subst (λ x. x ≤ top) (sym z) (lit-most (k / 31) (k % 31)))))
-
   peak-image : t .b ≤ 12 → (a b : ℕ) → a < 31 → b < 31 → sampleAt 31 scan (pos 15 +ℤ offset a) (pos 15 +ℤ offset b) ≡ lit a b
-  unfolding sampleAt
-  peak-image m a b h l =
-      let p = pow-mono {j = 12} m in
-      let s = lit-most a b in
-      rw (centre a, centre b, lt-ltb b 31 l)
-      (mended-live (λ k. getD scan (a * 31 + k) 0) b (λ e. let z = peak-at a b h l in absurd (omega arith)) ∙ peak-at a b h l)
+  unfolding peak
+  peak-image m = centred-image lit lit-most (let p = pow-mono {j = 12} m in omega arith)
 
   -- entries of that sign are all lit
   peak-own : t .b ≤ 12 → sum 31 (λ a. sum 31 (λ b. part (entry a b) * sampleAt 31 scan (pos 15 +ℤ offset a) (pos 15 +ℤ offset b)))

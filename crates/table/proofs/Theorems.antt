@@ -15,12 +15,12 @@ use lib.IntN.{pos}
 use lib.Seq.{take-append-add}
 use Rattle.layout.specs.declared.Table.{Table}
 use Rattle.layout.specs.Contents.{Contents, contents}
-use Rattle.layout.specs.Answers.{refused as refusal, accepted}
+use Rattle.layout.specs.Answers.{refused as refusal, accepted, wrote}
 use Rattle.limits.specs.Limits.{bitsGood, valueGood, areasGood, shaped, within, acceptable}
 use Rattle.limits.proofs.Values.{areas-suffice}
 use Rattle.table.specs.Format.{Bytes, Outcome, refused, loaded, marked, parseOf, loadOf, saidOf, tableFrom, readMost, encode}
 use Rattle.table.specs.Before.{loadBefore, Overlong, Stray}
-use Rattle.table.specs.Writing.{fileLength, wrote, writeOf}
+use Rattle.table.specs.Writing.{fileLength, writeOf}
 use Rattle.table.proofs.Numbers.{Number, Outcomes, loads, fails, number-of, load-numbers}
 use Rattle.table.proofs.Sound.{same-contents, parse-sound, fit-loaded, load-sound}
 use Rattle.table.proofs.Complete.{shaped-of, load-read, encode-bytes}

@@ -9,7 +9,7 @@ use Rattle.layout.specs.declared.Table.{Table}
 use Rattle.table.specs.declared.writing.Written.{Written}
 use Rattle.table.specs.declared.writing.Written.the-variants.{Length, Refused as NotWritten}
 use Rattle.layout.specs.Contents.{contents}
-use Rattle.layout.specs.Answers.{Said, refused, accepted, asks, firstNo}
+use Rattle.layout.specs.Answers.{Said, refused, accepted, asks, firstNo, Wrote, wrote}
 use Rattle.limits.specs.Limits.{acceptable}
 use Rattle.table.specs.Format.{encode}
 
@@ -17,14 +17,6 @@ use Rattle.table.specs.Format.{encode}
 abbrev pub writtenSaid : Written → Said
 writtenSaid (Length n) = accepted (pos n ∷ [])
 writtenSaid (NotWritten number place) = refused number place
-
--- what a call to write leaves: what it says, and the output
-pub record Wrote : Type 0 where
-  pub said : Said
-  pub out : List ℕ
-
-abbrev pub wrote : Said → (out : List ℕ) → Wrote
-wrote said out = record { said = said; out = out }
 
 -- the length of the file of a table: 9 + 9·(rectangles)
 abbrev pub fileLength : Table → ℕ

@@ -1,7 +1,7 @@
 -- Questions 11 and 13, then the file; its length is 9 + 9·(rectangles).
 use Rattle.limits.proofs.Granted.{granted}
-use Rattle.layout.specs.Answers.{accepted}
-use Rattle.table.specs.Writing.{fileLength, wrote, writeOf}
+use Rattle.layout.specs.Answers.{accepted, wrote}
+use Rattle.table.specs.Writing.{fileLength, writeOf}
 use borrow.Author.Tests.{le-leb, lt-leb, not-true, not-false}
 use mathlib.Core.List.{[], _∷_}
 use lib.IntN.{pos}
