@@ -1,11 +1,13 @@
 // The library for C: each call of the header include/strip.h, over the proved call that does the work.
 mod bursts;
+mod comparing;
 mod pixels;
 mod ranks;
 mod scans;
 mod tables;
 
 pub use bursts::strip_scan_rows;
+pub use comparing::strip_same;
 pub use pixels::strip_pixel;
 pub use ranks::strip_rank_close;
 pub use ranks::strip_rank_row;

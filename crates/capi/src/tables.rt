@@ -2,7 +2,7 @@
 ghost use mathlib.Core.Path.{_≡_};
 ghost use Rattle.table.specs.Format.{loadOf, saidOf, handedOut};
 ghost use Rattle.table.specs.Writing.{writeOf};
-ghost use Rattle.cstructs.specs.Answers.{loadedC, handedFile, wroteC};
+ghost use Rattle.cstructs.specs.Answers.{loadedC, writtenC, handedOutput, wroteC};
 use cstructs::TableLoaded;
 use cstructs::TableWritten;
 use cstructs::table_loaded;
@@ -31,7 +31,7 @@ pub extern "C" fn strip_table_load(bytes: &[u8]) -> TableLoaded
 // The length of the file written to the start of out, or the refusal.
 #[no_mangle]
 pub extern "C" fn strip_table_write(table: Table, out: &mut [u8]) -> TableWritten
-    ensures { λ r. ⌜ handedFile r (now (out .exit)) ≡ wroteC (writeOf table (now (out .entry))) ⌝ }
+    ensures { λ r. ⌜ handedOutput r (now (out .exit)) ≡ wroteC writtenC (writeOf table (now (out .entry))) ⌝ }
 {
     table_written(write(table, out))
 }

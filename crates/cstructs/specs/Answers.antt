@@ -1,10 +1,10 @@
 -- What C is handed: each struct of the header from what a call says and leaves.
 -- Assumes nothing.
 use Prim.Native.Nat.{ℕ}
-use mathlib.Core.Bool.{cond}
+use mathlib.Core.Bool.{cond, _&&_}
 use mathlib.Core.List.{List}
 use lib.Dec.{eqb}
-use lib.ListN.{getD}
+use lib.ListN.{length, getD}
 use lib.IntN.{ℤ, pos}
 use Rattle.arith.specs.Part.{posPart}
 use Rattle.layout.specs.Answers.{Said, Left, Wrote}
@@ -19,6 +19,7 @@ use Rattle.cstructs.specs.declared.scans.ScanStarted.{ScanStarted}
 use Rattle.cstructs.specs.declared.scans.ScanAnswer.{ScanAnswer}
 use Rattle.cstructs.specs.declared.bursts.BurstAnswer.{BurstAnswer}
 use Rattle.cstructs.specs.declared.pixels.PixelAnswer.{PixelAnswer}
+use Rattle.cstructs.specs.declared.sameness.SameAnswer.{SameAnswer}
 
 -- ---- an answer, from what a call says, whose number and place are 0 but for a refusal
 
@@ -49,6 +50,11 @@ writtenC s = record { refusal = s .number; place = s .place; length = amount s 0
 abbrev pub pixelC : Said → PixelAnswer
 pixelC s = record { refusal = s .number; place = s .place; value = value s 0 }
 
+-- two tables compared: same where that is said with no value, else the row and the column of the offset
+abbrev pub sameC : Said → SameAnswer
+sameC s =
+    record { refusal = s .number; place = s .place; same = eqb (s .kind) 1 && eqb (length (s .values)) 0; row = value s 0; col = value s 1 }
+
 -- a start or a close, and the scan after it
 abbrev pub startedC : Said → Scan → ScanStarted
 startedC s scan = record { refusal = s .number; place = s .place; scan = scan }
@@ -76,13 +82,13 @@ handed answer samples sums out = record { answer = answer; samples = samples; su
 abbrev pub leftC : {A : Type 0} → (answer : Said → Scan → A) → Left World → Handed A
 leftC answer x = handed (answer (x .said) (x .state .scan)) (x .state .samples) (x .state .sums) (x .out)
 
--- after a table is written: the answer and the output
-pub record HandedFile : Type 0 where
-  pub answer : TableWritten
+-- after a call that only writes: the answer and the output
+pub record HandedOutput (A : Type 0) : Type 0 where
+  pub answer : A
   pub out : List ℕ
 
-abbrev pub handedFile : TableWritten → (out : List ℕ) → HandedFile
-handedFile answer out = record { answer = answer; out = out }
+abbrev pub handedOutput : {A : Type 0} → A → (out : List ℕ) → HandedOutput A
+handedOutput answer out = record { answer = answer; out = out }
 
-abbrev pub wroteC : Wrote → HandedFile
-wroteC x = handedFile (writtenC (x .said)) (x .out)
+abbrev pub wroteC : {A : Type 0} → (answer : Said → A) → Wrote → HandedOutput A
+wroteC answer x = handedOutput (answer (x .said)) (x .out)

@@ -3,6 +3,7 @@ mod answers;
 mod bursts;
 mod pixels;
 mod ranks;
+mod sameness;
 mod scans;
 mod tables;
 
@@ -15,6 +16,8 @@ pub use ranks::RankStarted;
 pub use ranks::rank_moved;
 pub use ranks::rank_started;
 pub use ranks::rank_stepped;
+pub use sameness::SameAnswer;
+pub use sameness::same_found;
 pub use scans::ScanAnswer;
 pub use scans::ScanStarted;
 pub use scans::scan_moved;
