@@ -15,10 +15,6 @@ pub line-short : (k : ℕ) → length (line k (lines faultLines)) ≤ 100
 unfolding narrow ascii lines faultLines
 line-short k = line-narrow 100 (lines faultLines) k refl
 
-pub words-short : (n : ℕ) → length (refusalText n) ≤ 100
-unfolding narrow ascii lines sentences refusalText
-words-short n = line-narrow 100 (lines sentences) n refl
-
 -- a table whose b is wrong; a scan that ends in row 7; a header with no width
 table-3 : faultText (Table 3) ≡ ascii "table refused, 3: b is not from 1 to 12\n"
 unfolding ascii spell decimal piece filled lineLength afterLine line lines sentences refusalText faultLines messageOf messageText faultText

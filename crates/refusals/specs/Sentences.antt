@@ -32,6 +32,8 @@ sentences =
     ∷ "samples handed over together are no whole rows"
     ∷ "the rank is 0 or above the number of samples that the window covers"
     ∷ "b is above 8, the most that a ranked window takes"
+    ∷ "the two tables differ in b, t or w"
+    ∷ "one of the two tables drops bits"
     ∷ []
 
 -- the words for a number; none for a number that no call gives

@@ -34,6 +34,8 @@ the row or the column is outside the scan
 samples handed over together are no whole rows
 the rank is 0 or above the number of samples that the window covers
 b is above 8, the most that a ranked window takes
+the two tables differ in b, t or w
+one of the two tables drops bits
 ";
     put_line(out, at, sentences, number as usize)
 }

@@ -24,7 +24,7 @@ use Rattle.arith.proofs.Sums.{sum-cong}
 use Rattle.layout.specs.declared.Table.{Table}
 use Rattle.layout.specs.Contents.{contents}
 use Rattle.layout.specs.Answers.{refused, accepted, firstNo, wrote}
-use Rattle.layout.proofs.Questions.{AllYes, all-accepted, first-yes}
+use Rattle.layout.proofs.Questions.{all-accepted, first-yes, same-questions}
 use Rattle.grid.specs.Grid.{offset}
 use Rattle.limits.specs.Limits.{noDrops, acceptable}
 use Rattle.limits.proofs.Granted.{Granted, granted}
@@ -169,14 +169,29 @@ same-only t k scan e = go (ltb k 961) refl (nltb→le k 961) e
     go true y f z = absurd (none-two (sym z))
     go false y f z = f tt
 
+compared-said : (t : Table) (k : ℕ) (xs ys : List ℕ) → comparedAt t k xs .said ≡ comparedAt t k ys .said
+unfolding comparedAt
+compared-said t k xs ys = go (ltb k 961)
+  where
+    at : ℕ → List ℕ
+    at n = spot n (k / 31) (k % 31)
+
+    go : (b : Bool)
+        → cond b (wrote (accepted (offset (k / 31) ∷ offset (k % 31) ∷ [])) (at (2 ^ t .b - 1) ++ drop 961 xs)) (wrote (accepted []) xs) .said
+        ≡ cond b (wrote (accepted (offset (k / 31) ∷ offset (k % 31) ∷ [])) (at (2 ^ t .b - 1) ++ drop 961 ys)) (wrote (accepted []) ys) .said
+    go true = refl
+    go false = refl
+
 -- M106-2: of accepted tables without drops and with equal b, t and w the values are equal on every scan, width and place exactly when
 -- the weights are equal at all 961 offsets, and exactly then the call answers same
 pub same-exactly : (t u : Table) → Comparable t u → (scan : List ℕ) → 961 ≤ length scan → Exactly t u scan
 same-exactly t u c scan n =
     record {
       values = ((λ v. centres-suffice t u c (λ xs long good. v 31 xs (pos 15) (pos 15))), λ w l xs. weights-suffice t u c w (sampleAt l xs));
-      answer = ((λ e. all-like t u (same-only t (firstUnlike t u) scan (sym (ap (λ x. x .said) (asked-all t u c scan n)) ∙ e))),
-      λ w. ap (λ x. x .said) (asked-all t u c scan n) ∙ says-same t (firstUnlike t u) scan (let z = none-unlike t u w in omega arith));
+      answer = (
+        (λ e. all-like t u (same-only t (firstUnlike t u) scan (sym (ap (λ x. x .said) (asked-all t u c scan n)) ∙ e))),
+        λ w. ap (λ x. x .said) (asked-all t u c scan n) ∙ says-same t (firstUnlike t u) scan (let z = none-unlike t u w in omega arith),
+      );
       images = weights-suffice t u c;
       centres = centres-suffice t u c;
     }
@@ -201,9 +216,11 @@ unfolding sameOf sameAsks
 comparable t u scan e =
     let y = first-yes (λ x. eqb (x .said .kind) 0) (sameAsks t u (length scan)) (λ number place. wrote (refused number place) scan)
     (comparedAt t (firstUnlike t u) scan) (λ n p. refl) (ap (λ k. eqb k 0) e) in
-    let z = y .0 in
-    (record { one = z .0; other = z .1 .0; heads = z .1 .1 .0; drops = z .1 .1 .1 .0 },
-    leb→le 961 (length scan) (subst T (sym (z .1 .1 .1 .1 .0)) tt), y .1)
+    let z = y .0 in (
+      record { one = z .0; other = z .1 .0; heads = z .1 .1 .0; drops = z .1 .1 .1 .0 },
+      leb→le 961 (length scan) (subst T (sym (z .1 .1 .1 .1 .0)) tt),
+      y .1,
+    )
 
 -- what it answers and writes where it does not say same
 differs-at : (t : Table) (k : ℕ) (scan : List ℕ) (row col : ℤ) → comparedAt t k scan .said ≡ accepted (row ∷ col ∷ [])
@@ -250,8 +267,8 @@ module _ (t u : Table) (c : Comparable t u) (h : firstUnlike t u < 961) where
       record {
         taken = spot-taken u top a b (c .other) e;
         value =
-          spot-value top a b u (gu t u c) (nu t u c) (bright .1) (row-less (firstUnlike t u) h) (column-less (firstUnlike t u))
-          ∙ ap (λ n. weightAt u a b *ℤ pos n) e;
+            spot-value top a b u (gu t u c) (nu t u c) (bright .1) (row-less (firstUnlike t u) h) (column-less (firstUnlike t u))
+            ∙ ap (λ n. weightAt u a b *ℤ pos n) e;
       }
 
   values-differ : cutValue t (sampleAt 31 (spot top a b)) (pos 15) (pos 15) ≢ cutValue u (sampleAt 31 (spot top a b)) (pos 15) (pos 15)
@@ -287,6 +304,15 @@ spot-shows t u scan row col e =
     let y = comparable t u scan (ap (λ s. s .kind) e) in
     let d = differs-at t (firstUnlike t u) scan row col (sym (ap (λ x. x .said) (y .2)) ∙ e) in
     subst (ToldApart t u row col) (sym (ap (λ x. take 961 (x .out)) (y .2) ∙ d .3)) (apart t u (y .0) (d .0) (d .1) (d .2))
+
+-- what the call says goes by the number of lent places, whatever they hold
+pub said-by-length : (t u : Table) (xs ys : List ℕ) → length xs ≡ length ys → sameOf t u xs .said ≡ sameOf t u ys .said
+unfolding sameOf
+said-by-length t u xs ys e =
+    subst (λ n. sameOf t u xs .said ≡ firstNo (sameAsks t u n) (λ number place. wrote (refused number place) ys) (comparedAt t (firstUnlike t u) ys) .said) e
+    (same-questions (λ x y. x .said ≡ y .said) (sameAsks t u (length xs)) (λ number place. wrote (refused number place) xs)
+    (comparedAt t (firstUnlike t u) xs) (λ number place. wrote (refused number place) ys) (comparedAt t (firstUnlike t u) ys) (λ n p. refl)
+    (λ y. compared-said t (firstUnlike t u) xs ys))
 
 -- J4: with the table that loading hands out for a refused file, whichever of the two it is, the call is refused by question 11
 pub refused-same : (bs : List ℕ) (n p : ℕ) → loadOf bs ≡ noTable n p → (t : Table) (scan : List ℕ)

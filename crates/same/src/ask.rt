@@ -38,7 +38,11 @@ fn no_drops(t: Table) -> bool
 fn neither_drops(one: Table, other: Table) -> bool
     ensures { λ g. ⌜ g ≡ neitherDrops one other ⌝ }
 {
-    if no_drops(one) { no_drops(other) } else { false }
+    if no_drops(one) {
+        no_drops(other)
+    } else {
+        false
+    }
 }
 
 // Questions 11 of the first, 11 of the second, 24, 25, and 13 on a length of n.

@@ -44,6 +44,27 @@ pub fn gather(fd: i32, store: &mut [u8], have: usize, need: usize, most: usize) 
     Got { end, failed: false }
 }
 
+// Reads the file at a path, up to place `most` of a store. Where it cannot be opened or read, a line says why.
+pub fn file(path: &[u8], store: &mut [u8], most: usize) -> Got
+    requires { ⌜ most ≤ length (now store) ⌝ }
+    ensures { λ g. ⌜ g .end ≤ most ⌝ }
+{
+    let fd = os::open_read(path);
+    if fd < 0 {
+        os::fail(path);
+        return Got {
+            end: 0,
+            failed: true,
+        };
+    }
+    let got = gather(fd, store, 0, most, most);
+    if got.failed {
+        os::fail(path);
+    }
+    libc::close(fd);
+    got
+}
+
 // Writes to standard output. Answers whether that went well, and says so where it did not.
 pub fn put(bytes: &[u8]) -> bool {
     let done = io::write_all(STDOUT_FILENO, bytes);

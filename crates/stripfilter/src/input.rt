@@ -32,25 +32,11 @@ pub fn command() -> Command {
     commands::ended(c)
 }
 
-// The bytes of a table file, no more than loading needs. Where it cannot be opened or read, a line says why.
+// The bytes of a table file, no more than loading needs.
 pub fn table(path: &[u8], bytes: &mut [u8; 156]) -> Got
     ensures { λ g. ⌜ Counts (g .end) (now (bytes .exit)) ⌝ }
 {
-    let fd = os::open_read(path);
-    if fd < 0 {
-        os::fail(path);
-        return Got {
-            end: 0,
-            failed: true,
-        };
-    }
-    let most = table::read_most();
-    let got = gather(fd, bytes, 0, most, most);
-    if got.failed {
-        os::fail(path);
-    }
-    libc::close(fd);
-    got
+    streams::file(path, bytes, table::read_most())
 }
 
 // The header of the scan, how many bytes of it were read, and whether a read failed.

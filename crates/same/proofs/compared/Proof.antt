@@ -60,8 +60,14 @@ returns-2 c =
     let x = c .before .before .before .before in
     let d = x .before .before .before in
     let k = d .before .first-unlike .result in
-    rw (← d .before .first-unlike .ensures, lt-ltb _ _ (d .if1 .left), toZ-ofZ (record { sfits = c .before .offset .ok }),
-    toZ-ofZ (record { sfits = c .offset2 .ok }), c .before .offset .ensures, c .offset2 .ensures)
+    rw (
+      ← d .before .first-unlike .ensures,
+      lt-ltb _ _ (d .if1 .left),
+      toZ-ofZ (record { sfits = c .before .offset .ok }),
+      toZ-ofZ (record { sfits = c .offset2 .ok }),
+      c .before .offset .ensures,
+      c .offset2 .ensures,
+    )
     (ap (wrote (accepted (offset (k / 31) ∷ offset (k % 31) ∷ []))) (rw (power-is (x .before)) at (x .put-spot .ensures)))
 
 pub compared-spec : {M : Type 1} → statement M

@@ -5,7 +5,8 @@ use mathlib.Core.List.{[], _∷_}
 use Rattle.text.specs.Ascii.{ascii, line, lines}
 use Rattle.text.proofs.Puts.{put-said, put-then, kept}
 use Rattle.text.proofs.Pieces.{fill-said, filled-length}
-use Rattle.filtering.proofs.Texts.{line-short, words-short}
+use Rattle.refusals.proofs.Widths.{words-short}
+use Rattle.filtering.proofs.Texts.{line-short}
 use Rattle.filtering.specs.Messages.{faultLines, messageText}
 use borrow.Author.Needs.{needs}
 use Rattle.filtering.proofs.saying.put_message.Statement.{statement}

@@ -41,9 +41,11 @@ loop-less c = search needs
 loop-again : tie.Need-loop-again Inv-loop μ-loop
 loop-again c =
     let s = c .before .before .before in
-    let a = s .before .args in
-    (search needs, up-to {P = λ j. T (alikeAt (a .one) (a .other) j)} (s .loop .k) (s .loop .inv .1)
-    (subst T (sym (yes (c .before .alike .ensures) (c .if1 .left))) tt))
+    let a = s .before .args in (
+      search needs,
+      up-to {P = λ j. T (alikeAt (a .one) (a .other) j)} (s .loop .k) (s .loop .inv .1)
+          (subst T (sym (yes (c .before .alike .ensures) (c .if1 .left))) tt),
+    )
 
 returns-2 : tie.Need-returns-2 Inv-loop μ-loop
 unfolding firstUnlike
