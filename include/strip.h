@@ -43,6 +43,8 @@ extern "C" {
 #define STRIP_FILE_MOST 153          /* bytes of a table file: 9 + 9 * STRIP_RECTS */
 #define STRIP_FILE_READ 156          /* bytes of any file that decide its answer: STRIP_FILE_MOST and a field mark */
 #define STRIP_LEVELS 256             /* counts of a column, and of the window, in the stores of a ranked scan */
+#define STRIP_SIDE 31                /* rows, and columns, that rectangles can cover around a pixel: offsets -15 to 15 */
+#define STRIP_SPOT (STRIP_SIDE * STRIP_SIDE)   /* samples that strip_same needs room for: 961 */
 
 /* A sample that says: this element of the sensor failed. It counts as the nearest live sample to its left in its row, or as zero where
    there is none. */
@@ -96,7 +98,11 @@ typedef enum {
 
     /* ranked windows */
     STRIP_RANK = 22,           /* the rank is 0 or above the number of samples that the window covers */
-    STRIP_RANK_BITS = 23       /* b is above 8 */
+    STRIP_RANK_BITS = 23,      /* b is above 8 */
+
+    /* two tables compared */
+    STRIP_UNLIKE = 24,         /* b, t or w differ */
+    STRIP_HAS_DROPS = 25       /* either table has drops */
 } strip_refusal;
 
 /* The kinds of an answer. */
@@ -210,6 +216,27 @@ typedef struct {
    counts as said at STRIP_DEAD, also where the live one lies left of the rectangle. value: the pixel, the same that the scan calls
    give; refused, 0. */
 strip_pixel_answer strip_pixel(strip_table table, size_t width, const uint16_t *samples, size_t n, size_t r, size_t c);
+
+/* ---- two tables compared ---- */
+
+typedef struct {
+    uint32_t refusal, place;
+    bool same;
+    int32_t row, col;
+} strip_same_answer;
+
+/* Whether two tables without drops and with equal b, t and w give the same values on every scan. They do exactly when at each offset from
+   a pixel, -15 to 15 rows and columns, the weights of the rectangles that cover it add up to the same. Asks 11 of one, 11 of other, 24,
+   25, 13 (n below STRIP_SPOT, also where the tables do the same).
+
+   same: whether they do; row and col are then 0, and scan is not touched. Where they do not: row and col are the first offset, top row
+   first and left to right, at which the weights differ, and the first STRIP_SPOT elements of scan hold 31 rows of 31 samples: 2^b - 1 at
+   that offset from the centre, 0 elsewhere. strip_pixel takes them with either table (width STRIP_SIDE, r 15, c 15). The two values there
+   are 2^b - 1 times the two weights and differ; the pixels, which are the values shifted by t, may be equal all the same. Refused: same
+   is false, row and col are 0, and scan is not touched.
+
+   Tables that do the same give the same pixels. How late their filtered rows come may differ: a rectangle of weight 0 counts in D too. */
+strip_same_answer strip_same(strip_table one, strip_table other, uint16_t *scan, size_t n);
 
 /* ---- ranked windows ---- */
 

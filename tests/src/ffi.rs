@@ -121,6 +121,20 @@ pub struct PixelAnswer {
     pub value: i32,
 }
 
+/// What comparing two tables answers.
+#[repr(C)]
+#[derive(Clone, Copy, Debug, Default, PartialEq, Eq)]
+pub struct SameAnswer {
+    pub refusal: u32,
+    pub place: u32,
+    pub same: bool,
+    pub row: i32,
+    pub col: i32,
+}
+
+/// The header says its size.
+const _: () = assert!(size_of::<SameAnswer>() == 20);
+
 extern "C" {
     fn strip_table_check(bytes: *const u8, n: usize) -> u32;
     fn strip_table_load(bytes: *const u8, n: usize) -> Loaded;
@@ -173,6 +187,7 @@ extern "C" {
         r: usize,
         c: usize,
     ) -> PixelAnswer;
+    fn strip_same(one: Table, other: Table, scan: *mut u16, n: usize) -> SameAnswer;
     fn strip_rank_start(
         b: u8,
         window: Window,
@@ -322,6 +337,10 @@ pub fn scan_step(scan: &Scan, samples: &mut [u16], sums: &mut [u32], out: &mut [
 
 pub fn pixel(table: &Table, width: usize, samples: &[u16], r: usize, c: usize) -> PixelAnswer {
     unsafe { strip_pixel(*table, width, lent(samples), samples.len(), r, c) }
+}
+
+pub fn same(one: &Table, other: &Table, scan: &mut [u16]) -> SameAnswer {
+    unsafe { strip_same(*one, *other, lent_mut(scan), scan.len()) }
 }
 
 /// The three stores of a ranked scan, as they are lent to a call.

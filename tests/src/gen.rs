@@ -165,7 +165,7 @@ fn part(rng: &mut Rng, of: &Rect, weight: i16) -> Rect {
     }
 }
 
-fn shuffle<T>(rng: &mut Rng, list: &mut [T]) {
+pub fn shuffle<T>(rng: &mut Rng, list: &mut [T]) {
     for k in 1..list.len() {
         list.swap(k, rng.below(k + 1));
     }
@@ -258,7 +258,7 @@ fn covered(rect: &Rect) -> i64 {
 }
 
 /// The one sample at an offset from the pixel.
-fn spot(row: i64, column: i64, weight: i16) -> Rect {
+pub fn spot(row: i64, column: i64, weight: i16) -> Rect {
     Rect {
         leadrow: row as i8,
         leadcol: column as i8,

@@ -9,6 +9,7 @@ mod gen;
 mod pixel;
 mod rank;
 mod rng;
+mod same;
 mod table;
 mod tally;
 mod world;

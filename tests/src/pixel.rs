@@ -68,13 +68,17 @@ impl Strip<'_> {
         window / (1 << table.q3) * (1 << (table.q1 + table.q2 + table.q3))
     }
 
-    /// The pixel at row r, column c.
-    pub fn pixel(&self, table: &Table, r: usize, c: usize) -> i64 {
-        let value: i64 = rects(table)
+    /// The value at row r, column c: the weighted sum of the cut rectangle sums.
+    pub fn value(&self, table: &Table, r: usize, c: usize) -> i64 {
+        rects(table)
             .iter()
             .map(|rect| i64::from(rect.weight) * self.cut_sum(table, rect, r as i64, c as i64))
-            .sum();
-        value.div_euclid(1i64 << table.t)
+            .sum()
+    }
+
+    /// The pixel at row r, column c.
+    pub fn pixel(&self, table: &Table, r: usize, c: usize) -> i64 {
+        self.value(table, r, c).div_euclid(1i64 << table.t)
     }
 }
 

@@ -7,7 +7,7 @@ use std::fmt::{Debug, Display};
 pub type Outcome = Result<(), String>;
 
 /// The numbers that each call can answer, 0 being acceptance; every one has to be met.
-const NUMBERS: [(&str, &[u32]); 13] = [
+const NUMBERS: [(&str, &[u32]); 14] = [
     ("check", &[0, 1, 2, 3, 4, 5, 6, 7, 8, 9, 10]),
     ("load", &[0, 1, 2, 3, 4, 5, 6, 7, 8, 9, 10]),
     ("write", &[0, 11, 13]),
@@ -17,6 +17,7 @@ const NUMBERS: [(&str, &[u32]); 13] = [
     ("close", &[0, 14, 15]),
     ("step", &[0, 14, 15, 13, 19]),
     ("pixel", &[0, 11, 12, 17, 20, 18]),
+    ("same", &[0, 11, 24, 25, 13]),
     ("rank start", &[0, 3, 23, 8, 22, 12, 13]),
     ("rank row", &[0, 14, 15, 16, 17, 13, 18, 19]),
     ("rank close", &[0, 14, 15]),
@@ -24,7 +25,7 @@ const NUMBERS: [(&str, &[u32]); 13] = [
 ];
 
 /// The last refusal that the papers have.
-const LAST: u32 = 23;
+const LAST: u32 = 25;
 
 /// Situations that have to come up.
 const SIGHTS: &[&str] = &[
@@ -100,6 +101,19 @@ const SIGHTS: &[&str] = &[
     "dead before the rectangle",
     "65,535 in the store",
     "burst with dead across rows",
+    "same: cut another way",
+    "same: differs at (-15, -15)",
+    "same: differs at (15, 15)",
+    "same: 11 of the first",
+    "same: 11 of the second",
+    "same: 24 by b",
+    "same: 24 by t",
+    "same: 24 by w",
+    "same: 25 by the first",
+    "same: 25 by the second",
+    "same: 13 though they do the same",
+    "same: spot through the pixel call",
+    "same: equal pixels, other values",
     "ranked: R or more inside",
     "ranked: fewer than R inside",
     "ranked: none inside",

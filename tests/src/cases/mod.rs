@@ -7,6 +7,7 @@ mod long;
 mod peaks;
 mod pixels;
 mod ranks;
+mod sames;
 mod scans;
 mod states;
 mod strips;
@@ -32,7 +33,7 @@ const fn kind(
 }
 
 /// Cases are numbered through in this order.
-pub const KINDS: [Kind; 24] = [
+pub const KINDS: [Kind; 25] = [
     kind("strips of the paper", strips::COUNT, strips::case),
     kind("files at the limits", 60_000, files::limits),
     kind("files at question 10", 10_000, files::question_10),
@@ -46,6 +47,7 @@ pub const KINDS: [Kind; 24] = [
     kind("pixels", 40_000, pixels::case),
     kind("pixels of tall scans", 40, pixels::tall),
     kind("peaks of the grid", 1_500, peaks::case),
+    kind("tables compared", 30_000, sames::case),
     kind("scans", 30_000, scans::small),
     kind("scans of wide rows", 300, scans::wide),
     kind("altered stores", 20_000, altered::case),

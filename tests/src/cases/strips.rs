@@ -1,9 +1,12 @@
 //! The strips of the paper, with the numbers that the paper gives; those of the ranked window and of altered sums are worked out by hand.
 
 use crate::engine;
-use crate::ffi::{self, Answer, Rank, Rect, Table, Window, DONE, REFUSED, ROW, WAITING};
+use crate::ffi::{
+    self, Answer, Rank, Rect, SameAnswer, Table, Window, DONE, REFUSED, ROW, WAITING,
+};
 use crate::pixel;
 use crate::rng::Rng;
+use crate::same::compared;
 use crate::table;
 use crate::tally::{same, Outcome, Tally};
 use crate::world::ranked::RankBench;
@@ -11,7 +14,7 @@ use crate::world::Bench;
 
 type Strip = fn(&mut Rng, &mut Tally) -> Outcome;
 
-const STRIPS: [Strip; 16] = [
+const STRIPS: [Strip; 18] = [
     table_a_pixels,
     table_a_words,
     surround,
@@ -24,6 +27,8 @@ const STRIPS: [Strip; 16] = [
     bright_samples,
     no_rows,
     dead_elements,
+    same_shapes,
+    other_shapes,
     ranked_square,
     ranked_beside,
     ranked_limits,
@@ -364,6 +369,96 @@ fn ranked_is(
         take(&bench, answer.kind);
         scan = answer.scan;
     }
+}
+
+/// A table in 8 bits, word 16, of rectangles given as lead row, lead column, trail row, trail column and weight.
+fn shapes(list: &[[i8; 5]]) -> Table {
+    let mut t = Table {
+        b: 8,
+        w: 16,
+        count: list.len(),
+        ..Table::default()
+    };
+    for (slot, &[leadrow, leadcol, trailrow, trailcol, weight]) in t.rects.iter_mut().zip(list) {
+        *slot = Rect {
+            leadrow,
+            leadcol,
+            trailrow,
+            trailcol,
+            weight: weight.into(),
+        };
+    }
+    t
+}
+
+/// Library and papers both answer this of two tables, and write the same.
+fn comparing(what: &str, one: &Table, other: &Table, places: usize, told: SameAnswer) -> Outcome {
+    let (mut library, mut papers) = (vec![7; places], vec![7; places]);
+    same(what, &ffi::same(one, other, &mut library), &told)?;
+    same(what, &compared(one, other, &mut papers), &told)?;
+    same(what, &library, &papers)?;
+    let written = library.iter().any(|&sample| sample != 7);
+    same(what, &written, &(told.refusal == 0 && !told.same))
+}
+
+const SAME: SameAnswer = SameAnswer {
+    refusal: 0,
+    place: 0,
+    same: true,
+    row: 0,
+    col: 0,
+};
+
+/// A square of 3 by 3 cut in nine, in two halves, laid in two weights, and beside a rectangle of weight 0.
+fn same_shapes(_: &mut Rng, _: &mut Tally) -> Outcome {
+    let square = shapes(&[[1, 1, -2, -2, 5]]);
+    let spots: Vec<[i8; 5]> = (0..9)
+        .map(|k| {
+            let (row, col) = (k / 3 - 1, k % 3 - 1);
+            [row, col, row - 1, col - 1, 5]
+        })
+        .collect();
+    comparing("nine spots", &square, &shapes(&spots), 961, SAME)?;
+    let halves = shapes(&[[1, 1, 0, -2, 5], [0, 1, -2, -2, 5]]);
+    comparing("two halves", &square, &halves, 961, SAME)?;
+    let layers = shapes(&[[1, 1, -2, -2, 2], [1, 1, -2, -2, 3]]);
+    comparing("5 as 2 and 3", &layers, &square, 961, SAME)?;
+    let idle = shapes(&[[15, 15, -16, -16, 0], [1, 1, -2, -2, 5]]);
+    comparing("weight 0", &square, &idle, 961, SAME)?;
+    let short = SameAnswer {
+        refusal: 13,
+        ..SameAnswer::default()
+    };
+    comparing("960 places", &square, &halves, 960, short)
+}
+
+/// The square moved by a column, the last corner of the grid, and what 24 and 25 refuse.
+fn other_shapes(_: &mut Rng, _: &mut Tally) -> Outcome {
+    let square = shapes(&[[1, 1, -2, -2, 5]]);
+    let at = |row, col| SameAnswer {
+        row,
+        col,
+        ..SameAnswer::default()
+    };
+    let moved = shapes(&[[1, 2, -2, -1, 5]]);
+    comparing("moved right", &square, &moved, 961, at(-1, -1))?;
+    let lower = shapes(&[[2, 1, -1, -2, 5]]);
+    comparing("moved down", &lower, &square, 970, at(-1, -1))?;
+    let corner = shapes(&[[1, 1, -2, -2, 5], [15, 15, 14, 14, 1]]);
+    comparing("last corner", &square, &corner, 961, at(15, 15))?;
+    let one_less = shapes(&[[1, 1, -2, -2, 5], [-15, -15, -16, -16, -1]]);
+    comparing("first corner", &square, &one_less, 961, at(-15, -15))?;
+    let refused = |refusal| SameAnswer {
+        refusal,
+        ..SameAnswer::default()
+    };
+    let wider = Table { w: 17, ..square };
+    comparing("word 17", &square, &wider, 961, refused(24))?;
+    let dropping = Table { q3: 1, ..square };
+    comparing("q3 = 1", &square, &dropping, 961, refused(25))?;
+    comparing("q3 = 1 and word 17", &dropping, &wider, 0, refused(24))?;
+    let bad = Table { b: 13, ..wider };
+    comparing("13 bits and word 17", &dropping, &bad, 0, refused(11))
 }
 
 fn ranked_square(rng: &mut Rng, tally: &mut Tally) -> Outcome {
