@@ -3,7 +3,7 @@
 # make lib       build/libstrip.a and build/strip.h, for C
 # make examples  the header compiled as C and C++, the C example run
 # make outside   the library, through its C interface, beside a filter written separately from the papers
-# make programs  stripfilter and listing as a user meets them: options, faults, input in pieces, beside a filter in Python
+# make programs  stripfilter, listing and sametable as a user meets them: options, faults, input in pieces, beside a filter in Python
 # make bench     the speed of the engine and of the ranked window beside C loops, and the program's beside the engine; BEFORE=folder takes
 #                the library of another commit in turn with this one
 # make scan      makes the strips under scans/ again
@@ -53,7 +53,7 @@ outside: lib
 	@$(if $(STRIP_LIB_DIR),STRIP_LIB_DIR=$(abspath $(STRIP_LIB_DIR)) )cargo run --release --offline --quiet --manifest-path tests/Cargo.toml
 
 programs: kit
-	@rt check listing stripfilter >target.log 2>&1 || { cat target.log; rm -f target.log; exit 1; }
+	@rt check listing stripfilter sametable >target.log 2>&1 || { cat target.log; rm -f target.log; exit 1; }
 	@rm -f target.log
 	@tests/programs.sh
 

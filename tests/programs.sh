@@ -1,11 +1,13 @@
 #!/bin/sh
 # The programs as a user meets them: what no contract can say is tried here. stripfilter beside scripts/filter.py on two-byte samples, by ranked
-# windows and as values, its input in odd pieces and two scans on one stream, its options and faults; listing on what cannot be read.
+# windows and as values, its input in odd pieces and two scans on one stream, its options and faults; listing on what cannot be read; sametable
+# on shapes cut in several ways.
 set -u
 cd "$(dirname "$0")/.." || exit 2
 strip=$PWD/target/bin/stripfilter
 list=$PWD/target/bin/listing
-[ -x "$strip" ] && [ -x "$list" ] || { echo "programs: not built; run 'rt check listing stripfilter' first"; exit 2; }
+compare=$PWD/target/bin/sametable
+[ -x "$strip" ] && [ -x "$list" ] && [ -x "$compare" ] || { echo "programs: not built; run 'rt check listing stripfilter sametable' first"; exit 2; }
 work=$(mktemp -d)
 trap 'rm -rf "$work"' EXIT
 table=$PWD/tables/even.table
@@ -110,6 +112,34 @@ for name in mark stray; do
 done
 "$list" <"$work" >"$work/listed" 2>"$work/said"
 [ -s "$work/said" ] || fail "listing does not say that it cannot read"
+
+# shapes: a header (b 8, word 16) and rectangles, each as four edges and a weight in octal
+rect() { for bytes; do printf '\002\000\006'"$bytes"; done; }
+head8() { printf '\001\000\006\010\000\000\000\000\020'; }
+{ head8; rect '\001\001\376\376\000\005'; } >"$work/square"
+{ head8; rect '\001\001\000\376\000\005' '\000\001\376\376\000\005'; } >"$work/halves"
+{ head8; for row in 377:376 000:377 001:000; do for col in 377:376 000:377 001:000; do rect "\\${row%:*}\\${col%:*}\\${row#*:}\\${col#*:}\\000\\005"; done; done; } >"$work/nine"
+{ head8; rect '\001\001\376\376\000\002' '\001\001\376\376\000\003' '\017\017\360\360\000\000'; } >"$work/layers"
+{ head8; rect '\001\002\376\377\377\373'; } >"$work/moved"
+{ head8; rect '\001\001\376\376\000\005' '\017\017\016\016\377\376'; } >"$work/corner"
+{ printf '\001\000\006\010\000\000\000\000\021'; rect '\001\001\376\376\000\005'; } >"$work/wider"
+{ printf '\001\000\006\010\000\000\001\000\020'; rect '\001\001\376\376\000\005'; } >"$work/cut"
+for shape in square halves nine layers; do
+    says "the square and $shape" "same" "$compare" "$work/square" "$work/$shape"
+    says "$shape and halves" "same" "$compare" "$work/$shape" "$work/halves"
+done
+says "the square moved and turned round" "differ at row -1, column -1: 5 and 0" "$compare" "$work/nine" "$work/moved"
+says "the same the other way" "differ at row -1, column -1: 0 and 5" "$compare" "$work/moved" "$work/nine"
+says "the last corner" "differ at row 15, column 15: 0 and -2" "$compare" "$work/layers" "$work/corner"
+says "another word" "refused, 24: the two tables differ in b, t or w" "$compare" "$work/square" "$work/wider"
+says "drops" "refused, 25: one of the two tables drops bits" "$compare" "$work/square" "$work/cut"
+says "drops in the first" "refused, 25: one of the two tables drops bits" "$compare" "$work/cut" "$work/square"
+says "a first file refused" "first table refused, 6: there are more than 16 rectangles" "$compare" "$work/mark.table" "$work/short.table"
+says "a second file refused" "second table refused, 2: a field is cut off" "$compare" "$work/square" "$work/short.table"
+says "one table" "usage: sametable TABLE TABLE" "$compare" "$work/square"
+says "three tables" "usage: sametable TABLE TABLE" "$compare" "$work/square" "$work/square" "$work/square"
+says "a file that is not there" "$work/none: " "$compare" "$work/square" "$work/none"
+[ "$("$compare" "$work/square" "$work/none" 2>/dev/null)" = "" ] || fail "sametable answers without a second file"
 
 [ $failed -eq 0 ] && echo "programs: ok"
 exit $failed
