@@ -1,19 +1,16 @@
 -- What is printed, by what the calls say.
 -- Assumes nothing.
-use Prim.Native.Nat.{ℕ, _≤_}
-use mathlib.Core.Path.{_≡_, refl, sym, ap, _∙_, subst}
+use Prim.Native.Nat.{ℕ}
+use mathlib.Core.Path.{_≡_, sym, ap, _∙_}
 use mathlib.Core.List.{List}
 use lib.IntN.{ℤ}
 use lib.ListN.{length}
 use Rattle.arith.specs.Tab.{tab}
 use Rattle.arith.proofs.Tabs.{length-tab}
 use Rattle.layout.specs.declared.Table.{Table}
-use Rattle.layout.specs.declared.Verdict.{Verdict}
-use Rattle.layout.specs.declared.Verdict.the-variants.{Accepted, Refused}
-use Rattle.layout.specs.Answers.{said, wrote}
-use Rattle.layout.specs.Contents.{Contents, tableOf}
-use Rattle.table.specs.Format.{refused, loaded, loadOf, tableFrom, handed, handedOut}
-use Rattle.table.proofs.Sound.{refused-from, loaded-from, load-sound}
+use Rattle.layout.specs.Answers.{wrote}
+use Rattle.table.specs.Format.{refused, loadOf}
+use Rattle.table.proofs.Sound.{Read}
 use Rattle.text.specs.Ascii.{ascii}
 use Rattle.same.specs.declared.Sameness.{Sameness}
 use Rattle.same.specs.declared.Sameness.the-variants.{Same, Differs, Refused as NotCompared}
@@ -48,22 +45,6 @@ module _ (t u : Table) (scan : List ℕ) {out : List ℕ} (long : length scan �
       (record { a = s .a; less = s .a-less; is = s .row-is }, record { a = s .b; less = s .b-less; is = s .col-is })
 
 -- ---- files
-
--- an accepted file: the struct holds its table
-pub record Read (bs : List ℕ) (t : Table) : Type 0 where
-  pub rest : Contents
-  pub is : loadOf bs ≡ loaded rest
-  pub table : t ≡ tableOf rest
-  pub few : t .count ≤ 16
-
-pub read : (bs : List ℕ) {v : Verdict} {t : Table} → handed (said v) t ≡ handedOut (loadOf bs) → v ≡ Accepted → Read bs t
-read bs {v} {t} e a =
-    let l = loaded-from (loadOf bs) (sym (ap (λ h. h .said) e) ∙ ap said a) in
-    let is = ap (λ h. h .table) e ∙ ap tableFrom (l .1) in
-    record { rest = l .0; is = l .1; table = is; few = subst (λ u. u .count ≤ 16) (sym is) (load-sound bs (l .0) (l .1) .0 .most) }
-
-pub not-read : (bs : List ℕ) {v : Verdict} {t : Table} {n p : ℕ} → handed (said v) t ≡ handedOut (loadOf bs) → v ≡ Refused n p → loadOf bs ≡ refused n p
-not-read bs {v} {t} {n} {p} e a = refused-from (loadOf bs) n p (sym (ap (λ h. h .said) e) ∙ ap said a)
 
 pub second-read : (t : Table) (bs : List ℕ) {u : Table} → Read bs u → secondText t (loadOf bs) ≡ comparedText t u
 unfolding secondText

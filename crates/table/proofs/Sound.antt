@@ -15,14 +15,15 @@ use mir.Facts.{and-yes}
 use Rattle.arith.specs.Twos.{signed, unsigned, fitsSigned}
 use Rattle.arith.proofs.Words.{unsigned-signed, signed-fits}
 use Rattle.layout.specs.declared.Rect.{Rect}
+use Rattle.layout.specs.declared.Table.{Table}
 use Rattle.layout.specs.declared.Verdict.{Verdict}
 use Rattle.layout.specs.declared.Verdict.the-variants.{Accepted, Refused}
-use Rattle.layout.specs.Contents.{Contents, noRect}
+use Rattle.layout.specs.Contents.{Contents, noRect, tableOf}
 use Rattle.limits.specs.Limits.{rectGood, valueGood}
-use Rattle.layout.specs.Answers.{refused as refusal, accepted, verdict}
+use Rattle.layout.specs.Answers.{refused as refusal, accepted, said, verdict}
 use Rattle.layout.proofs.Answers.{same-refusal}
 use Rattle.layout.proofs.Questions.{onVerdict}
-use Rattle.table.specs.Format.{Bytes, Outcome, refused, loaded, marked, headOf, rectOf, plus, headerAsks, fieldAsks, atEnd, fieldsOf, parseOf, fitOf, loadOf, saidOf, encodeRect, encodeRects, encodeHead, encode}
+use Rattle.table.specs.Format.{Bytes, Outcome, refused, loaded, marked, headOf, rectOf, plus, headerAsks, fieldAsks, atEnd, fieldsOf, parseOf, fitOf, loadOf, saidOf, tableFrom, handed, handedOut, encodeRect, encodeRects, encodeHead, encode}
 use Rattle.limits.proofs.Asked.{HeadTests}
 use Rattle.table.proofs.Asked.{FieldTests, field-accepted, HeaderTests, header-accepted}
 use Rattle.table.proofs.Structs.{with-rects}
@@ -228,3 +229,30 @@ fit-loaded (loaded d) c e = go (valueGood d) refl e
 pub load-sound : (bs : List ℕ) (c : Contents) → loadOf bs ≡ loaded c → Parsed bs c × (valueGood c ≡ true)
 unfolding loadOf
 load-sound bs c e = let a = fit-loaded (parseOf bs) c e in (parse-sound bs c (a .0), a .1)
+
+-- ---- what the loading call hands out
+
+-- the file was accepted: the struct holds its table, whose header and number of rectangles are within the limits
+pub record Read (bs : List ℕ) (t : Table) : Type 0 where
+  pub contents : Contents
+  pub is : loadOf bs ≡ loaded contents
+  pub table : t ≡ tableOf contents
+  pub head : HeadTests (t .b) (t .q1) (t .q2) (t .q3) (t .t) (t .w)
+  pub few : t .count ≤ 16
+
+pub read : (bs : List ℕ) {v : Verdict} {t : Table} → handed (said v) t ≡ handedOut (loadOf bs) → v ≡ Accepted → Read bs t
+read bs {v} {t} e a =
+    let l = loaded-from (loadOf bs) (sym (ap (λ h. h .said) e) ∙ ap said a) in
+    let is = ap (λ h. h .table) e ∙ ap tableFrom (l .1) in
+    let p = load-sound bs (l .0) (l .1) .0 in
+    record {
+      contents = l .0;
+      is = l .1;
+      table = is;
+      head = subst (λ u. HeadTests (u .b) (u .q1) (u .q2) (u .q3) (u .t) (u .w)) (sym is) (p .head);
+      few = subst (λ u. u .count ≤ 16) (sym is) (p .most);
+    }
+
+-- it was refused
+pub not-read : (bs : List ℕ) {v : Verdict} {t : Table} {n p : ℕ} → handed (said v) t ≡ handedOut (loadOf bs) → v ≡ Refused n p → loadOf bs ≡ refused n p
+not-read bs {v} {t} {n} {p} e a = refused-from (loadOf bs) n p (sym (ap (λ h. h .said) e) ∙ ap said a)

@@ -5,8 +5,25 @@ use borrow.Author.Needs.{needs}
 use borrow.Author.Tests.{le-leb, lt-leb}
 use Rattle.arith.proofs.Bools.{yes, no}
 use Rattle.same.specs.Same.{sameAsks}
+use Rattle.same.specs.Meaning.{Comparable}
 use Rattle.same.proofs.ask.asked.Statement.{statement}
 use Rattle.same.proofs.ask.asked.Tie as tie
+
+abbrev start : tie.Else4 → tie.Start
+start c = c .before .before .before .before .before .before .before .before
+
+-- the questions on the tables are all answered yes
+answered : (c : tie.Else4) → Comparable (start c .args .one) (start c .args .other)
+answered c =
+    let x = c .before .before in
+    let u = x .before .before in
+    let v = u .before .before in
+    record {
+      one = yes (v .before .accepted .ensures) (v .if1 .left);
+      other = yes (u .before .accepted2 .ensures) (u .if2 .left);
+      heads = yes (x .before .heads-alike .ensures) (x .if3 .left);
+      drops = yes (c .before .neither-drops .ensures) (c .if4 .left);
+    }
 
 accepted-requires : tie.Need-accepted-requires
 accepted-requires c κs = search needs
@@ -57,32 +74,14 @@ returns-4 c =
 returns-5 : tie.Need-returns-5
 unfolding sameAsks
 returns-5 c =
-    let y = c .before in
-    let x = y .before .before in
-    let u = x .before .before in
-    let v = u .before .before in
-    rw (
-      yes (v .before .accepted .ensures) (v .if1 .left),
-      yes (u .before .accepted2 .ensures) (u .if2 .left),
-      yes (x .before .heads-alike .ensures) (x .if3 .left),
-      yes (y .before .neither-drops .ensures) (y .if4 .left),
-      lt-leb _ _ (c .if5 .taken),
-    ) refl
+    let y = answered (c .before) in
+    rw (y .one, y .other, y .heads, y .drops, lt-leb _ _ (c .if5 .taken)) refl
 
 returns-6 : tie.Need-returns-6
 unfolding sameAsks
 returns-6 c =
-    let y = c .before in
-    let x = y .before .before in
-    let u = x .before .before in
-    let v = u .before .before in
-    rw (
-      yes (v .before .accepted .ensures) (v .if1 .left),
-      yes (u .before .accepted2 .ensures) (u .if2 .left),
-      yes (x .before .heads-alike .ensures) (x .if3 .left),
-      yes (y .before .neither-drops .ensures) (y .if4 .left),
-      le-leb _ _ (c .if5 .left),
-    ) refl
+    let y = answered (c .before) in
+    rw (y .one, y .other, y .heads, y .drops, le-leb _ _ (c .if5 .left)) refl
 
 pub asked-spec : {M : Type 1} → statement M
 asked-spec =

@@ -2,7 +2,8 @@
 -- Assumes nothing.
 use borrow.Author.Needs.{needs}
 use Rattle.text.specs.Ascii.{ascii}
-use Rattle.sametable.proofs.Said.{read, not-read, first-read, first-refused}
+use Rattle.table.proofs.Sound.{read, not-read}
+use Rattle.sametable.proofs.Said.{first-read, first-refused}
 use Rattle.sametable.proofs.answers.compare.Statement.{statement}
 use Rattle.sametable.proofs.answers.compare.Tie as tie
 

@@ -2,7 +2,8 @@
 -- Assumes nothing.
 use borrow.Author.Needs.{needs}
 use Rattle.text.specs.Ascii.{ascii}
-use Rattle.sametable.proofs.Said.{read, not-read, second-read, second-refused}
+use Rattle.table.proofs.Sound.{read, not-read}
+use Rattle.sametable.proofs.Said.{second-read, second-refused}
 use Rattle.sametable.proofs.answers.with_second.Statement.{statement}
 use Rattle.sametable.proofs.answers.with_second.Tie as tie
 
