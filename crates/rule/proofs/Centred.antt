@@ -5,7 +5,7 @@ use native.Mathlib.Nat.{div-add-mod, mod-lt}
 use native.Mathlib.Omega.{arith}
 use mathlib.Core.Path.{_≡_, sym, ap, _∙_, subst}
 use mathlib.Core.Bool.{true}
-use mathlib.Core.List.{List, [], append-nil}
+use mathlib.Core.List.{[], append-nil}
 use lib.IntN.{pos, _+ℤ_}
 use lib.ListN.{length, getD}
 use borrow.Author.Tests.{lt-ltb}

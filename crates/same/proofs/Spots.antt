@@ -16,7 +16,7 @@ use borrow.Author.Tests.{eq-eqb, ne-eqb}
 use Rattle.arith.specs.All.{all}
 use Rattle.arith.specs.Part.{posPart, negPart}
 use Rattle.arith.specs.Sum.{sum}
-use Rattle.arith.specs.Tab.{tab, grid, zeroed}
+use Rattle.arith.specs.Tab.{grid, zeroed}
 use Rattle.arith.proofs.Grids.{grid-at, grid-long, grid-next}
 use Rattle.arith.proofs.Passes.{length-grid, pass-length, pass-done, pass-next}
 use Rattle.arith.proofs.Ints.{diff-parts, diff-scale, diff-eq}

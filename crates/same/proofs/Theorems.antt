@@ -5,9 +5,9 @@ use native.Mathlib.Nat.{div-add-mod, mod-lt, eq-of-mul-eq-mul-right}
 use native.Mathlib.Omega.{arith}
 use mathlib.Core.Path.{_≡_, refl, sym, ap, ap₂, _∙_, subst}
 use mathlib.Core.Bool.{Bool, true, false, not, cond, _&&_}
-use mathlib.Core.List.{List, [], _∷_, _++_}
-use mathlib.Core.Logic.{_↔_, _≢_}
-use lib.Dec.{T, eqb, leb, ltb, eqb→eq, leb→le, ltb→lt, nltb→le}
+use mathlib.Core.List.{List, [], _∷_}
+use mathlib.Core.Logic.{_≢_}
+use lib.Dec.{T, eqb, ltb, eqb→eq, leb→le, ltb→lt, nltb→le}
 use lib.IntN.{ℤ, pos, _+ℤ_, _*ℤ_}
 use lib.ListN.{length, take, drop}
 use lib.Pow.{pow-mono}
@@ -30,13 +30,13 @@ use Rattle.limits.specs.Limits.{noDrops, acceptable}
 use Rattle.limits.proofs.Granted.{Granted, granted}
 use Rattle.table.specs.Format.{refused as noTable, loadOf, tableFrom}
 use Rattle.table.proofs.Theorems.{refused-table}
-use Rattle.rule.specs.Sums.{Image, sampleAt}
+use Rattle.rule.specs.Sums.{sampleAt}
 use Rattle.rule.specs.Pixels.{cutValue, pixelOf}
 use Rattle.rule.specs.Mended.{dead}
 use Rattle.rule.proofs.Fitting.{entries}
 use Rattle.pixel.specs.Call.{pixelAsks, pixelAnswer}
-use Rattle.same.specs.Same.{headsAlike, neitherDrops, sameAsks, weightAt, alikeAt, firstUnlike, spot, comparedAt, sameOf}
-use Rattle.same.specs.Meaning.{Comparable, SameWeights, SameValues, SameOnImages, SameAtCentres, Exactly, Shows, ToldApart}
+use Rattle.same.specs.Same.{headsAlike, neitherDrops, sameAsks, weightAt, alikeAt, firstUnlike, spot, differsAt, comparedAt, sameOf}
+use Rattle.same.specs.Meaning.{Comparable, SameWeights, SameOnImages, SameAtCentres, Exactly, Shows, ToldApart}
 use Rattle.same.proofs.Answers.{none-two, two-values}
 use Rattle.same.proofs.Spots.{spot-long, spot-good, spot-value, spot-taken}
 
@@ -161,24 +161,17 @@ says-same t k scan h = rw (le-ltb k 961 h) refl
 -- and only there
 same-only : (t : Table) (k : ℕ) (scan : List ℕ) → comparedAt t k scan .said ≡ accepted [] → 961 ≤ k
 unfolding comparedAt
-same-only t k scan e = go (ltb k 961) refl (nltb→le k 961) e
+same-only t k scan e = go (ltb k 961) (nltb→le k 961) e
   where
-    go : (b : Bool) → ltb k 961 ≡ b → (T (not b) → 961 ≤ k)
-        → cond b (wrote (accepted (offset (k / 31) ∷ offset (k % 31) ∷ [])) (spot (2 ^ t .b - 1) (k / 31) (k % 31) ++ drop 961 scan)) (wrote (accepted []) scan) .said
-        ≡ accepted [] → 961 ≤ k
-    go true y f z = absurd (none-two (sym z))
-    go false y f z = f tt
+    go : (b : Bool) → (T (not b) → 961 ≤ k) → cond b (differsAt t k scan) (wrote (accepted []) scan) .said ≡ accepted [] → 961 ≤ k
+    go true f z = absurd (none-two (sym z))
+    go false f z = f tt
 
 compared-said : (t : Table) (k : ℕ) (xs ys : List ℕ) → comparedAt t k xs .said ≡ comparedAt t k ys .said
 unfolding comparedAt
 compared-said t k xs ys = go (ltb k 961)
   where
-    at : ℕ → List ℕ
-    at n = spot n (k / 31) (k % 31)
-
-    go : (b : Bool)
-        → cond b (wrote (accepted (offset (k / 31) ∷ offset (k % 31) ∷ [])) (at (2 ^ t .b - 1) ++ drop 961 xs)) (wrote (accepted []) xs) .said
-        ≡ cond b (wrote (accepted (offset (k / 31) ∷ offset (k % 31) ∷ [])) (at (2 ^ t .b - 1) ++ drop 961 ys)) (wrote (accepted []) ys) .said
+    go : (b : Bool) → cond b (differsAt t k xs) (wrote (accepted []) xs) .said ≡ cond b (differsAt t k ys) (wrote (accepted []) ys) .said
     go true = refl
     go false = refl
 
@@ -231,13 +224,12 @@ differs-at t k scan row col e = go (ltb k 961) (ltb→lt k 961) e
     top : ℕ
     top = 2 ^ t .b - 1
 
-    go : (b : Bool) → (T b → k < 961)
-        → cond b (wrote (accepted (offset (k / 31) ∷ offset (k % 31) ∷ [])) (spot top (k / 31) (k % 31) ++ drop 961 scan)) (wrote (accepted []) scan) .said
-        ≡ accepted (row ∷ col ∷ [])
+    go : (b : Bool) → (T b → k < 961) → cond b (differsAt t k scan) (wrote (accepted []) scan) .said ≡ accepted (row ∷ col ∷ [])
         → (k < 961) × (row ≡ offset (k / 31)) × (col ≡ offset (k % 31))
-        × (take 961 (cond b (wrote (accepted (offset (k / 31) ∷ offset (k % 31) ∷ [])) (spot top (k / 31) (k % 31) ++ drop 961 scan)) (wrote (accepted []) scan) .out)
-        ≡ spot top (k / 31) (k % 31))
-    go true f z = let v = two-values z in (f tt, sym (v .0), sym (v .1), take-at (spot top (k / 31) (k % 31)) (drop 961 scan) 961 (spot-long top (k / 31) (k % 31)))
+        × (take 961 (cond b (differsAt t k scan) (wrote (accepted []) scan) .out) ≡ spot top (k / 31) (k % 31))
+    go true f z =
+        let v = two-values z in
+        (f tt, sym (v .0), sym (v .1), take-at (spot top (k / 31) (k % 31)) (drop 961 scan) 961 (spot-long top (k / 31) (k % 31)))
     go false f z = absurd (none-two z)
 
 module _ (t u : Table) (c : Comparable t u) (h : firstUnlike t u < 961) where
@@ -289,6 +281,7 @@ module _ (t u : Table) (c : Comparable t u) (h : firstUnlike t u < 961) where
         b-less = column-less (firstUnlike t u);
         row-is = r;
         col-is = s;
+        scan-is = refl;
         before = λ k l. like-before t u k (omega arith);
         unlike = first-unlike t u h;
         one = shows-one;

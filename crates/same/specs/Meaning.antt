@@ -6,7 +6,7 @@ use mathlib.Core.Bool.{true}
 use mathlib.Core.List.{List, [], _∷_}
 use mathlib.Core.Logic.{_↔_, _≢_}
 use lib.IntN.{ℤ, pos, _*ℤ_}
-use lib.ListN.{length, take}
+use lib.ListN.{length}
 use Rattle.arith.specs.All.{all}
 use Rattle.layout.specs.declared.Table.{Table}
 use Rattle.layout.specs.Answers.{accepted}
@@ -16,7 +16,7 @@ use Rattle.rule.specs.Questions.{sampleGood}
 use Rattle.rule.specs.Sums.{Image, sampleAt}
 use Rattle.rule.specs.Pixels.{cutValue, pixelOf}
 use Rattle.pixel.specs.Call.{pixelAnswer}
-use Rattle.same.specs.Same.{headsAlike, neitherDrops, weightAt, sameOf}
+use Rattle.same.specs.Same.{headsAlike, neitherDrops, weightAt, spot, sameOf}
 
 -- two tables that questions 11, 24 and 25 accept
 pub record Comparable (t u : Table) : Type 0 where
@@ -57,7 +57,7 @@ pub record Shows (t : Table) (scan : List ℕ) (a b : ℕ) : Type 0 where
   pub taken : pixelAnswer t 31 scan 15 15 ≡ accepted (pixelOf t (sampleAt 31 scan) (pos 15) (pos 15) ∷ [])
   pub value : cutValue t (sampleAt 31 scan) (pos 15) (pos 15) ≡ weightAt t a b *ℤ pos (2 ^ t .b - 1)
 
--- two tables told apart by offset (row, col) and a scan
+-- two tables told apart by offset (row, col) and the scan that is 2^b - 1 there and 0 elsewhere
 pub record ToldApart (t u : Table) (row col : ℤ) (scan : List ℕ) : Type 0 where
   pub a : ℕ
   pub b : ℕ
@@ -65,6 +65,7 @@ pub record ToldApart (t u : Table) (row col : ℤ) (scan : List ℕ) : Type 0 wh
   pub b-less : b < 31
   pub row-is : row ≡ offset a
   pub col-is : col ≡ offset b
+  pub scan-is : scan ≡ spot (2 ^ t .b - 1) a b
   -- the offset is the first: top row first, left to right
   pub before : (k : ℕ) → k < a * 31 + b → weightAt t (k / 31) (k % 31) ≡ weightAt u (k / 31) (k % 31)
   pub unlike : weightAt t a b ≢ weightAt u a b

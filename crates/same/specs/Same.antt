@@ -56,13 +56,13 @@ firstUnlike t u = firstNot 961 (alikeAt t u)
 unfoldable pub spot : (top a b : ℕ) → List ℕ
 spot top a b = grid 31 31 (λ i j. cond (eqb i a && eqb j b) top 0)
 
--- what is left where the weights differ first at offset k: that offset and, in the first 961 places, the scan that is 2^b - 1 there;
--- where they differ nowhere: same, and nothing written
+-- what is left where the weights differ at offset k: that offset is said, and the first 961 places hold the scan that is 2^b - 1 there
+abbrev pub differsAt : Table → (k : ℕ) → (scan : List ℕ) → Wrote
+differsAt t k scan = wrote (accepted (offset (k / 31) ∷ offset (k % 31) ∷ [])) (spot (2 ^ t .b - 1) (k / 31) (k % 31) ++ drop 961 scan)
+
+-- what is left where they differ first at offset k of 961; where at none, same is said and nothing is written
 unfoldable pub comparedAt : Table → (k : ℕ) → (scan : List ℕ) → Wrote
-comparedAt t k scan =
-    cond (ltb k 961)
-    (wrote (accepted (offset (k / 31) ∷ offset (k % 31) ∷ [])) (spot (2 ^ t .b - 1) (k / 31) (k % 31) ++ drop 961 scan))
-    (wrote (accepted []) scan)
+comparedAt t k scan = cond (ltb k 961) (differsAt t k scan) (wrote (accepted []) scan)
 
 -- what the call leaves
 unfoldable pub sameOf : (t u : Table) → (scan : List ℕ) → Wrote

@@ -2,7 +2,7 @@
 -- Assumes nothing.
 use Prim.Native.Nat.{_/_, _%_, _^_, _≤_}
 use native.Mathlib.Omega.{arith}
-use mathlib.Core.Path.{_≡_, refl, sym, ap, _∙_}
+use mathlib.Core.Path.{_≡_, refl, ap}
 use mathlib.Core.List.{[], _∷_}
 use lib.Pow.{pow-pos, pow-mono}
 use mir.Facts.{toZ-ofZ}

@@ -3,14 +3,12 @@
 use Prim.Native.Nat.{_*_, _-_, _≤_}
 use native.Mathlib.Numerals.{add-one}
 use native.Mathlib.Omega.{arith}
-use mathlib.Core.Path.{_≡_, refl, ap, _∙_, subst}
+use mathlib.Core.Path.{_≡_, refl, ap, _∙_}
 use borrow.Author.Needs.{needs}
-use Rattle.arith.specs.Diff.{Diff}
 use Rattle.arith.specs.Part.{posPart, negPart}
 use Rattle.arith.specs.Sum.{sum}
 use Rattle.arith.proofs.Sums.{sum-suc}
 use Rattle.layout.specs.Contents.{rect}
-use Rattle.grid.specs.Grid.{gridAt}
 use Rattle.grid.specs.Lines.{weightMost}
 use Rattle.grid.proofs.Entries.{laid, grid-parts}
 use Rattle.grid.proofs.weights.entry.Statement.{statement}

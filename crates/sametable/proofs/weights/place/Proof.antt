@@ -1,8 +1,6 @@
 -- `sametable::place`: an offset raised by 15 is below 31.
 -- Assumes nothing.
 use native.Mathlib.Omega.{arith}
-use mathlib.Core.Path.{refl}
-use mir.Syntax.{w32}
 use Rattle.sametable.proofs.Offsets.{code-fits, code-value, place-is}
 use Rattle.sametable.proofs.weights.place.Statement.{statement}
 use Rattle.sametable.proofs.weights.place.Tie as tie

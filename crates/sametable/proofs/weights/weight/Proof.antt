@@ -1,17 +1,12 @@
 -- `sametable::weight`: the difference of an entry's two parts, which fits 32 bits.
 -- Assumes nothing.
-use Prim.Native.Nat.{_^_, _<_}
 use native.Mathlib.Omega.{arith}
-use mathlib.Core.Path.{_≡_, sym, ap₂, _∙_, subst}
-use lib.IntN.{subℕ}
-use mir.Syntax.{w32}
-use mir.Val.{SFits}
+use mathlib.Core.Path.{ap₂, _∙_}
 use mir.Facts.{toZ-ofZ}
 use borrow.Author.Needs.{needs}
 use Rattle.arith.proofs.Differences.{sub-fits, sub-value}
 use Rattle.arith.proofs.Ints.{diff-sub, diff-eq, diff-size}
 use Rattle.same.specs.Same.{weightAt}
-use Rattle.sametable.specs.Comparison.{InGrid}
 use Rattle.sametable.proofs.weights.weight.Statement.{statement}
 use Rattle.sametable.proofs.weights.weight.Tie as tie
 
