@@ -140,7 +140,8 @@ typedef struct {
 } strip_loaded;
 
 /* Loads the table of the n bytes of a file. refusal: 0, or 1 to 10. table: the table, with zeros in the unused slots; refused, a table
-   of zeros with no rectangle, which writing, starting and strip_pixel refuse with 11, and every call on a scan that holds it with 14. */
+   of zeros with no rectangle, which writing, starting, strip_pixel and strip_same refuse with 11, and every call on a scan that holds it
+   with 14. */
 strip_loaded strip_table_load(const uint8_t *bytes, size_t n);
 
 typedef struct {
