@@ -5,7 +5,7 @@
     python3 scripts/edits.py --cost LOG       # what a run of the gate spent, by crate (build/ci.log)
 
 It works on a copy of the work tree, so crates that are proved stay proved. At the shape only: the proof names a place that the edited
-code does not have, which shows nothing about the promise.
+code does not have, which shows nothing about the promise. Under each edit stands how the refusal begins: read it.
 """
 import collections
 import pathlib
@@ -15,7 +15,7 @@ import subprocess
 import sys
 import tempfile
 
-SHAPE = ("has no `Need-", "that can be named from here", "is not in scope")
+SHAPE = ("has no `Need-", "has no field", "that can be named from here", "is not in scope")
 
 
 def cost(log):
@@ -32,16 +32,28 @@ def cost(log):
     print(f"{'all':14}{proofs.total():9}{count.total():7}{edits.total():8}   seconds of one core")
 
 
+def first_error(log):
+    """The first error of a log, with the lines that go on with it."""
+    lines = iter(log.splitlines())
+    found = next((l for l in lines if ": error" in l), "")
+    text = [found.partition(": error: ")[2]]
+    for line in lines:
+        if not line.startswith("  ") or len(text) == 4:
+            break
+        text.append(line.strip())
+    return " ".join(text)
+
+
 def refusal(line, copy):
     m = re.match(r"rt: must-fail (\w+)/(\w+): (refused|NOT REFUSED|BAD EDIT)(.*)", line)
     if not m:
         return None
-    kind = m[3]
+    kind, begins = m[3], ""
     if kind == "refused":
-        log = (copy / "target/must-fail" / m[1] / m[2] / ".log").read_text(errors="replace")
-        first = next((l for l in log.splitlines() if ": error" in l), "")
-        kind = "SHAPE" if any(s in first for s in SHAPE) else "fact"
-    return f"{kind:12} {m[1]}/{m[2]}{m[4]}"
+        error = first_error((copy / "target/must-fail" / m[1] / m[2] / ".log").read_text(errors="replace"))
+        kind = "SHAPE" if any(s in error for s in SHAPE) else "fact"
+        begins = "\n" + " " * 13 + error[:240]
+    return f"{kind:12} {m[1]}/{m[2]}{m[4]}{begins}"
 
 
 def main(args):
