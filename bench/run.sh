@@ -10,10 +10,11 @@ if [ -n "$BEFORE" ]; then
     objcopy --redefine-syms=build/before.names "$BEFORE/libstrip.a" build/libbefore.a || exit 1
     before="-DBEFORE build/libbefore.a"
     loops="engine before tuned remainder"
-    gcc -O2 -Wall -Wextra -Ibuild bench/stack.c build/libstrip.a $before -o build/bench-stack-before -lpthread || exit 1
+    # the calls of the other library under their own names, those that it has not from this one
+    awk '{ print "#define", $1, $2 }' build/before.names >build/before.names.h
+    gcc -O2 -D_POSIX_C_SOURCE=200809L -Ibuild -include build/before.names.h bench/stack.c build/libstrip.a build/libbefore.a -o build/stack-before -lpthread -Wl,-z,now || exit 1
 fi
 gcc $flags -Ibuild bench/bench.c build/libstrip.a $before -o build/bench || exit 1
-gcc -O2 -Wall -Wextra -Ibuild bench/stack.c build/libstrip.a -o build/bench-stack -lpthread || exit 1
 gcc $flags -Ibuild bench/rank.c build/libstrip.a -o build/bench-rank || exit 1
 
 # counts WORD...: the instructions of a program run with these arguments
@@ -56,10 +57,10 @@ if command -v valgrind >/dev/null 2>&1; then
 fi
 build/bench || exit 1
 echo
-build/bench-stack || exit 1
+scripts/stack.sh || exit 1
 if [ -n "$before" ]; then
     echo "before:"
-    build/bench-stack-before || exit 1
+    build/stack-before || exit 1
 fi
 echo
 build/bench-rank

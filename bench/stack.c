@@ -1,106 +1,210 @@
-/* The stack that the calls of a scan take: each is made on a painted stack, and the deepest byte that it changed is looked up. */
+/* The stack that each call takes, in bytes: it is made on a painted stack, with tables, widths and stores that lead it through all of its
+   code, and the deepest byte that it changed is looked up. What it is handed and hands back by value is counted in. A line a call: its
+   name and the most that it took. */
 #include "strip.h"
 #include <pthread.h>
 #include <stdio.h>
 #include <stdlib.h>
 #include <string.h>
 
-enum { STACK = 1 << 20, PAINT = 0xA5, WIDTH = 1024, ROWS = 20 };
-
-#ifdef BEFORE
-strip_answer old_strip_scan_row(strip_scan, const uint16_t *, size_t, uint16_t *, size_t, uint32_t *, size_t, int32_t *, size_t);
-strip_burst old_strip_scan_rows(strip_scan, const uint16_t *, size_t, uint16_t *, size_t, uint32_t *, size_t, int32_t *, size_t);
-strip_answer old_strip_scan_step(strip_scan, uint16_t *, size_t, uint32_t *, size_t, int32_t *, size_t);
-#define strip_scan_row old_strip_scan_row
-#define strip_scan_rows old_strip_scan_rows
-#define strip_scan_step old_strip_scan_step
-#endif
+enum { STACK = 1 << 18, PAINT = 0xA5, ROWS = 40, MOST = STRIP_WIDTH_MOST };
 
 static uint8_t stack[STACK] __attribute__((aligned(4096)));
-static uint16_t samples[STRIP_KEPT_ROWS * WIDTH], rows[ROWS * WIDTH];
-static uint32_t sums[STRIP_RECTS * WIDTH];
-static int32_t out[ROWS * WIDTH];
-static strip_scan scan;
+static uint16_t samples[STRIP_SAMPLES(MOST)], rows[ROWS * MOST], counts[STRIP_COUNTS(MOST)], windows[STRIP_LEVELS], spot[STRIP_SPOT];
+static uint32_t sums[STRIP_SUMS(STRIP_RECTS, MOST)];
+static int32_t out[ROWS * MOST];
+static uint8_t file[STRIP_FILE_READ];
 
-static void *nothing(void *unused)
+/* what the calls work on */
+static size_t width, length;
+static strip_table table, other;
+static strip_window window;
+static strip_scan scan;
+static strip_rank ranked;
+
+static void want(int good, const char *call)
 {
-    return unused;
+    if (!good) {
+        fprintf(stderr, "stack: %s is not answered as it should be\n", call);
+        exit(1);
+    }
 }
 
-static void *row_by_row(void *unused)
+static void nothing(void) {}
+
+static void table_check(void)
 {
-    size_t l = scan.width;
+    want(strip_table_check(file, length) == 0, "strip_table_check");
+}
+
+static void table_load(void)
+{
+    want(strip_table_load(file, length).refusal == 0, "strip_table_load");
+}
+
+static void table_write(void)
+{
+    uint8_t *bytes = file;
+    length = strip_table_write(table, bytes, sizeof file).length;
+    want(length > 0, "strip_table_write");
+}
+
+static void scan_start(void)
+{
+    strip_started s = strip_scan_start(table, width, samples, STRIP_SAMPLES(width), sums, STRIP_SUMS(table.count, width));
+    want(s.refusal == 0, "strip_scan_start");
+    scan = s.scan;
+}
+
+static void scan_row(void)
+{
     for (int i = 0; i < ROWS; i++) {
-        strip_answer a = strip_scan_row(scan, rows, l, samples, STRIP_SAMPLES(l), sums, STRIP_SUMS(scan.table.count, l), out, l);
-        if (a.kind == STRIP_REFUSED)
-            exit(3);
+        strip_answer a = strip_scan_row(scan, rows, width, samples, STRIP_SAMPLES(width), sums, STRIP_SUMS(table.count, width), out, width);
+        want(a.kind != STRIP_REFUSED, "strip_scan_row");
         scan = a.scan;
     }
-    return unused;
+    sums[0] += 1 << 20; /* a sum that cannot be: all that was done for the row is taken back */
+    strip_answer a = strip_scan_row(scan, rows, width, samples, STRIP_SAMPLES(width), sums, STRIP_SUMS(table.count, width), out, width);
+    want(a.kind == STRIP_REFUSED && a.number == STRIP_SUM, "strip_scan_row");
+    sums[0] -= 1 << 20;
 }
 
-static void *burst(void *unused)
+static void scan_rows(void)
 {
-    size_t l = scan.width;
-    strip_burst b = strip_scan_rows(scan, rows, ROWS * l, samples, STRIP_SAMPLES(l), sums, STRIP_SUMS(scan.table.count, l), out, ROWS * l);
-    if (b.refusal)
-        exit(3);
+    strip_burst b = strip_scan_rows(scan, rows, ROWS * width, samples, STRIP_SAMPLES(width), sums, STRIP_SUMS(table.count, width), out, ROWS * width);
+    want(b.refusal == 0, "strip_scan_rows");
     scan = b.scan;
-    return unused;
 }
 
-static void *steps(void *unused)
+static void scan_close(void)
 {
-    size_t l = scan.width;
-    strip_answer a = {.kind = STRIP_ROW, .scan = strip_scan_close(scan).scan};
+    strip_started s = strip_scan_close(scan);
+    want(s.refusal == 0, "strip_scan_close");
+    scan = s.scan;
+}
+
+static void scan_step(void)
+{
+    strip_answer a = {.kind = STRIP_ROW, .scan = scan};
     while (a.kind != STRIP_DONE) {
-        a = strip_scan_step(a.scan, samples, STRIP_SAMPLES(l), sums, STRIP_SUMS(scan.table.count, l), out, l);
-        if (a.kind == STRIP_REFUSED)
-            exit(3);
+        a = strip_scan_step(a.scan, samples, STRIP_SAMPLES(width), sums, STRIP_SUMS(table.count, width), out, width);
+        want(a.kind != STRIP_REFUSED, "strip_scan_step");
     }
+}
+
+static void pixel(void)
+{
+    want(strip_pixel(table, width, rows, ROWS * width, ROWS / 2, width / 2).refusal == 0, "strip_pixel");
+}
+
+static void same(void)
+{
+    strip_same_answer a = strip_same(table, other, spot, STRIP_SPOT);
+    want(a.refusal == STRIP_HAS_DROPS || (a.refusal == 0 && !a.same), "strip_same");
+}
+
+static void rank_start(void)
+{
+    strip_rank_started s = strip_rank_start(8, window, 1, width, samples, STRIP_SAMPLES(width), counts, STRIP_COUNTS(width), windows, STRIP_LEVELS);
+    want(s.refusal == 0, "strip_rank_start");
+    ranked = s.scan;
+}
+
+static void rank_row(void)
+{
+    for (int i = 0; i < ROWS; i++) {
+        strip_rank_answer a = strip_rank_row(ranked, rows, width, samples, STRIP_SAMPLES(width), counts, STRIP_COUNTS(width), windows, STRIP_LEVELS, out, width);
+        want(a.kind != STRIP_REFUSED, "strip_rank_row");
+        ranked = a.scan;
+    }
+    counts[STRIP_COUNTS(width) - 1] += 32; /* a count that cannot be, in the last column */
+    strip_rank_answer a = strip_rank_row(ranked, rows, width, samples, STRIP_SAMPLES(width), counts, STRIP_COUNTS(width), windows, STRIP_LEVELS, out, width);
+    want(a.kind == STRIP_REFUSED && a.number == STRIP_SUM, "strip_rank_row");
+    counts[STRIP_COUNTS(width) - 1] -= 32;
+}
+
+static void rank_close(void)
+{
+    strip_rank_started s = strip_rank_close(ranked);
+    want(s.refusal == 0, "strip_rank_close");
+    ranked = s.scan;
+}
+
+static void rank_step(void)
+{
+    strip_rank_answer a = {.kind = STRIP_ROW, .scan = ranked};
+    while (a.kind != STRIP_DONE) {
+        a = strip_rank_step(a.scan, samples, STRIP_SAMPLES(width), counts, STRIP_COUNTS(width), windows, STRIP_LEVELS, out, width);
+        want(a.kind != STRIP_REFUSED, "strip_rank_step");
+    }
+}
+
+/* the calls, in an order in which each finds what it works on */
+static struct {
+    const char *name;
+    void (*call)(void);
+    size_t most;
+} calls[] = {
+    {"strip_table_write", table_write, 0}, {"strip_table_check", table_check, 0}, {"strip_table_load", table_load, 0},
+    {"strip_scan_start", scan_start, 0},   {"strip_scan_row", scan_row, 0},       {"strip_scan_rows", scan_rows, 0},
+    {"strip_scan_close", scan_close, 0},   {"strip_scan_step", scan_step, 0},     {"strip_pixel", pixel, 0},
+    {"strip_same", same, 0},               {"strip_rank_start", rank_start, 0},   {"strip_rank_row", rank_row, 0},
+    {"strip_rank_close", rank_close, 0},   {"strip_rank_step", rank_step, 0},
+};
+
+static void (*made)(void);
+
+static void *work(void *unused)
+{
+    made();
     return unused;
 }
 
-/* the bytes of the stack that a thread changes */
-static size_t depth(void *(*work)(void *))
+/* the bytes of the stack that a thread changes which makes this call */
+static size_t depth(void (*call)(void))
 {
     pthread_attr_t attr;
     pthread_t thread;
     size_t untouched = 0;
+    made = call;
     memset(stack, PAINT, sizeof stack);
     pthread_attr_init(&attr);
-    if (pthread_attr_setstack(&attr, stack, STACK) || pthread_create(&thread, &attr, work, NULL) || pthread_join(thread, NULL))
-        exit(2);
+    want(!pthread_attr_setstack(&attr, stack, STACK) && !pthread_create(&thread, &attr, work, NULL) && !pthread_join(thread, NULL), "a thread");
     while (untouched < STACK && stack[untouched] == PAINT)
         untouched++;
     return STACK - untouched;
 }
 
-/* w: the pixel word; in one of 8 bits, without drops, the weight grid is asked, where all weights cancel */
-static void measure(const char *name, size_t width, int16_t weight, uint8_t w)
+/* Makes every call with sixteen rectangles of 31 by 31 whose weights are in turn positive and negative and cancel. */
+static void measure(size_t columns, int16_t weight, uint8_t t, uint8_t w, uint8_t drop)
 {
-    strip_table t = {.b = 12, .q3 = w > 8, .t = 16, .w = w, .count = STRIP_RECTS};
-    for (size_t k = 0; k < t.count; k++)
-        t.rects[k] = (strip_rect){15, 15, -16, -16, (int16_t)(k % 2 ? -weight : weight)};
-    strip_started s = strip_scan_start(t, width, samples, STRIP_SAMPLES(width), sums, STRIP_SUMS(t.count, width));
-    if (s.refusal)
-        exit(4);
-    scan = s.scan;
+    width = columns;
+    table = (strip_table){.b = 8, .q1 = drop, .q2 = drop, .q3 = drop, .t = t, .w = w, .count = STRIP_RECTS};
+    for (size_t k = 0; k < table.count; k++)
+        table.rects[k] = (strip_rect){15, 15, -16, -16, (int16_t)(k % 2 ? -weight : weight)};
+    other = table;
+    other.rects[0].leadcol = 14; /* differs from it in one column */
+    window = (strip_window){15, 15, -16, -16};
     size_t none = depth(nothing);
-    printf("%-36s", name);
-    printf("%16zu", depth(row_by_row) - none);
-    printf("%16zu", depth(burst) - none);
-    printf("%16zu\n", depth(steps) - none);
+    for (size_t i = 0; i < sizeof calls / sizeof calls[0]; i++) {
+        size_t taken = depth(calls[i].call) - none;
+        if (taken > calls[i].most)
+            calls[i].most = taken;
+    }
 }
 
 int main(void)
 {
-    printf("bytes of stack%-22s%16s%16s%16s\n", "", "strip_scan_row", "strip_scan_rows", "strip_scan_step");
-    measure("values of 32 bits, 256 columns", 256, 30, 32);
-    measure("values of 32 bits, 1024 columns", 1024, 30, 32);
-    measure("values of 64 bits, 1024 columns", 1024, 30000, 32);
-#ifndef BEFORE
-    measure("by the weight grid, 1024 columns", 1024, 30, 8);
-#endif
+    for (size_t i = 0; i < ROWS * MOST; i++)
+        rows[i] = i % 7 ? i % 251 : STRIP_DEAD;
+    for (size_t columns = 1; columns <= MOST; columns = columns == 1 ? 256 : 4 * columns) {
+        measure(columns, 30, 0, 32, 0);     /* values of 32 bits */
+        measure(columns, 30, 0, 32, 1);     /* and with drops */
+        measure(columns, 30000, 8, 32, 0);  /* values of 64 bits */
+        measure(columns, 30000, 8, 32, 1);  /* and with drops */
+        measure(columns, 30, 0, 24, 0);     /* a word that only the weight grid accepts */
+    }
+    for (size_t i = 0; i < sizeof calls / sizeof calls[0]; i++)
+        printf("%s %zu\n", calls[i].name, calls[i].most);
     return 0;
 }

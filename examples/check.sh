@@ -1,6 +1,6 @@
 #!/bin/sh
-# Compiles the header as C11 and as C++ and the example against build/libstrip.a, runs it on tables whole and damaged, and holds what it
-# says to examples/screen.expected. Then pastes the README's lines on linking from C.
+# Compiles the header as C11 and as C++ and the examples against build/libstrip.a; runs screen on tables whole and damaged, and scan, and holds what
+# they say to the files *.expected. Then pastes the README's lines on calling from C.
 set -eu
 cd "$(dirname "$0")/.."
 flags='-Wall -Wextra -Wpedantic -Werror'
@@ -11,6 +11,8 @@ else
     echo "examples: no g++ here, so the header was not compiled as C++"
 fi
 gcc -std=c11 $flags -Ibuild examples/screen.c build/libstrip.a -o build/screen
+gcc -std=c11 $flags -Ibuild examples/scan.c build/libstrip.a -o build/scan
+build/scan | diff examples/scan.expected - || { echo "examples/scan.c does not say what examples/scan.expected has"; exit 1; }
 
 work=$(mktemp -d)
 trap 'rm -rf "$work"' EXIT
@@ -44,6 +46,6 @@ header() { printf '\001\000\006'"$1"; }
 } >"$work/said"
 diff examples/screen.expected "$work/said" || { echo "examples/screen.c does not say what examples/screen.expected has"; exit 1; }
 
-pixel=$(sed -n '/^## Linking from C/,/^## /s/^    //p' README.md | sh | tail -n 1)
-[ "$pixel" = -13 ] || { echo "the README's lines on linking from C give '$pixel', not -13"; exit 1; }
+sed -n '/^## From C/,/^## /s/^    //p' README.md | sh >"$work/pasted"
+diff examples/scan.expected "$work/pasted" || { echo "the README's lines on calling from C give something else"; exit 1; }
 echo "examples: ok"

@@ -3,20 +3,6 @@
 #include <stdio.h>
 #include "strip.h"
 
-/* what each refusal of a table means */
-static const char *const words[] = {
-    [STRIP_NO_HEADER] = "the file does not begin with a header",
-    [STRIP_CUT_OFF] = "the file ends inside a field",
-    [STRIP_BITS] = "the bits of a sample are not from 1 to 12",
-    [STRIP_DROPS] = "a drop is too large",
-    [STRIP_WORD] = "the shift or the pixel word is outside its limits",
-    [STRIP_TOO_MANY] = "there are more than 16 rectangles",
-    [STRIP_NO_FIELD] = "a field is not that of a rectangle",
-    [STRIP_EDGES] = "a rectangle's edges are outside their limits or turned round",
-    [STRIP_NO_RECT] = "there is no rectangle",
-    [STRIP_EXTREMES] = "the pixels would not fit the pixel word",
-};
-
 /* the number that the check gives for a file, or -1 where it cannot be read */
 static int checked(const char *name)
 {
@@ -45,6 +31,6 @@ int main(int argc, char **argv)
         printf("%s: accepted\n", argv[1]);
         return 0;
     }
-    printf("%s: refused, %d: %s\n", argv[1], number, words[number]);
+    printf("%s: refused, %d: %s\n", argv[1], number, strip_refusal_text((uint32_t)number));
     return 1;
 }

@@ -8,8 +8,11 @@
  * Beside it stands the ranked window: one rectangle with a rank and no weight. Each place of the scan yields one level, the rank-th
  * smallest of the samples under the window. There, samples outside the scan are not counted; a dead sample counts as in the filter.
  *
- * Link with build/libstrip.a; it needs memcpy and memset and nothing else, allocates nothing and keeps nothing between calls. Stack, on
- * x86-64: strip_scan_row, strip_scan_rows and strip_scan_step take 19 KB, whatever the table and the width.
+ * examples/scan.c has a whole scan in a page; docs/RULES.md has the rules behind every number here.
+ *
+ * Link with libstrip.a, or with libstrip.so, which offers the calls below and no other name. Both are for x86-64, the one machine that the
+ * kit compiles for; they need memcpy and memset and nothing else, allocate nothing and keep nothing between calls, so that calls on
+ * different scans may run side by side.
  *
  * What holds of every call:
  *   - It accepts any numbers. Questions are asked in a fixed order, and the first no ends the call with that question's number and a
@@ -18,7 +21,21 @@
  *     strip_scan_rows this holds row by row.
  *   - A pointer points to at least as many elements as the length after it says, aligned for its type; where that length is 0 it may be
  *     null. The arrays lent to one call do not overlap.
+ *   - A bool that is handed in, as `closed` of a scan, holds 0 or 1, as every bool does that C itself stores; a scan that was copied from
+ *     raw bytes may hold something else, and then nothing is promised. A bool that is handed out holds 0 or 1.
  *   - It ends, and does not write beyond the elements that its description names.
+ *
+ * Was it refused? STRIP_OK and STRIP_REFUSED are both 0 and mean the opposite, so test the field that the answer has:
+ *   - `refusal` (loading, writing, starting, closing, several rows, one pixel, two tables): refused where it is not STRIP_OK.
+ *   - `kind` (a row, a closing step): refused where it is STRIP_REFUSED; then `number` is the refusal.
+ *
+ * Stack: the most bytes that a call takes, whatever its table and width, with what it is handed and hands back by value. bench/stack.c
+ * measures it with gcc on x86-64, and the gate holds this list to what it measures.
+ *   strip_table_check    1,536      strip_scan_start     1,280      strip_rank_start       256
+ *   strip_table_load     1,536      strip_scan_row      19,200      strip_rank_row       4,864
+ *   strip_table_write      768      strip_scan_rows     19,456      strip_rank_step      4,864
+ *   strip_pixel          1,024      strip_scan_step     18,688      strip_rank_close       256
+ *   strip_same           1,024      strip_scan_close     1,280
  */
 #ifndef STRIP_H
 #define STRIP_H
@@ -32,6 +49,12 @@ extern "C" {
 #endif
 
 /* ---- numbers ---- */
+
+/* The version of this header. A change of STRIP_VERSION_MAJOR can break a caller's code, one of STRIP_VERSION_MINOR adds to it. */
+#define STRIP_VERSION_MAJOR 1
+#define STRIP_VERSION_MINOR 1
+#define STRIP_VERSION_PATCH 0
+#define STRIP_VERSION "1.1.0"
 
 /* Limits and sizes. */
 #define STRIP_RECTS 16               /* rectangles of a table, 1 to 16 */
@@ -62,48 +85,86 @@ extern "C" {
 /* The level of a place with no sample of the scan under the window. */
 #define STRIP_EMPTY (-1)
 
-/* The refusals. */
+/* The refusals. Each begins with the sentence that strip_refusal_text has for it. */
 typedef enum {
     STRIP_OK = 0,              /* accepted: no refusal */
 
     /* loading a table file; 3 and 8 are asked of a ranked window too */
-    STRIP_NO_HEADER = 1,       /* the file does not begin with 01 00 06 */
-    STRIP_CUT_OFF = 2,         /* a field's contents are not all present */
+    STRIP_NO_HEADER = 1,       /* the file does not begin with the header 01 00 06 */
+    STRIP_CUT_OFF = 2,         /* a field is cut off */
     STRIP_BITS = 3,            /* b is not from 1 to 12 */
     STRIP_DROPS = 4,           /* q1 is not below b, or q2 or q3 is above 8 */
     STRIP_WORD = 5,            /* t is above 31, or w is not from 8 to 32 */
-    STRIP_TOO_MANY = 6,        /* a field mark after sixteen rectangles */
-    STRIP_NO_FIELD = 7,        /* a further field, after sixteen rectangles too, does not begin with the mark 02 00 06 */
-    STRIP_EDGES = 8,           /* a lead outside -15 to 15, a trail outside -16 to 14, or a trail not below its lead */
-    STRIP_NO_RECT = 9,         /* no rectangle */
-    STRIP_EXTREMES = 10,       /* the largest or the smallest value does not fit the pixel word: without drops by the weight grid, so that
-                                  some scan has such a pixel; with drops by the rectangles one by one */
+    STRIP_TOO_MANY = 6,        /* there are more than 16 rectangles: a field mark after the sixteenth */
+    STRIP_NO_FIELD = 7,        /* a field does not begin with 02 00 06, after sixteen rectangles too */
+    STRIP_EDGES = 8,           /* a lead is not from -15 to 15, a trail not from -16 to 14, or a trail is not below its lead */
+    STRIP_NO_RECT = 9,         /* there is no rectangle */
+    STRIP_EXTREMES = 10,       /* the largest or the smallest pixel does not fit w bits: without drops by the weight grid, so that some
+                                  scan has such a pixel; with drops by the rectangles one by one */
 
     /* tables, widths, arrays */
-    STRIP_TABLE = 11,          /* not a table that loading accepts */
-    STRIP_WIDTH = 12,          /* the width is not from 1 to 1,024 */
+    STRIP_TABLE = 11,          /* the table is not one that loading accepts */
+    STRIP_WIDTH = 12,          /* the width is not from 1 to 1024 */
     STRIP_TOO_SHORT = 13,      /* a store or an output is too short */
 
     /* scans */
-    STRIP_STATE = 14,          /* the scan's numbers do not agree */
-    STRIP_CLOSED = 15,         /* the scan is closed; of a closing step: it is not */
-    STRIP_FULL = 16,           /* 65,535 rows are in */
-    STRIP_LENGTH = 17,         /* the row has not `width` samples; of strip_pixel: the length is not width times 1 to 65,535 */
-    STRIP_SAMPLE = 18,         /* a sample is above 2^b - 1 and not STRIP_DEAD; place: the lowest index of one */
-    STRIP_SUM = 19,            /* a column sum that cannot be: a store was altered between calls; place: the lowest rectangle, from 0;
-                                  place the number of rectangles: a pixel due does not fit the word; of a ranked scan: a kept sample or a
-                                  column count that cannot be; place: 0 */
-    STRIP_OUTSIDE = 20,        /* row or column outside the scan */
-    STRIP_NOT_ROWS = 21,       /* the samples handed over together are not whole rows: their number is no multiple of `width` */
+    STRIP_STATE = 14,          /* the numbers of the scan do not agree */
+    STRIP_CLOSED = 15,         /* the scan is closed, or at a closing step it is not */
+    STRIP_FULL = 16,           /* 65535 rows are in */
+    STRIP_LENGTH = 17,         /* the number of samples does not go with the width: of a row it is not `width`; of strip_pixel it is not
+                                  `width` times 1 to 65,535 */
+    STRIP_SAMPLE = 18,         /* a sample is above 2^b - 1 and not 65535, the mark of a dead one; place: the lowest index of one */
+    STRIP_SUM = 19,            /* a column sum, a count or a pixel cannot be: the stores or the scan are not those of the last call;
+                                  place: the lowest rectangle, from 0, with such a column sum; the number of rectangles where a pixel
+                                  that is due does not fit its word; 0 in a ranked scan, where a kept sample is no level or a count
+                                  cannot be */
+    STRIP_OUTSIDE = 20,        /* the row or the column is outside the scan */
+    STRIP_NOT_ROWS = 21,       /* samples handed over together are no whole rows: their number is no multiple of `width` */
 
     /* ranked windows */
     STRIP_RANK = 22,           /* the rank is 0 or above the number of samples that the window covers */
-    STRIP_RANK_BITS = 23,      /* b is above 8 */
+    STRIP_RANK_BITS = 23,      /* b is above 8, the most that a ranked window takes */
 
     /* two tables compared */
-    STRIP_UNLIKE = 24,         /* b, t or w differ */
-    STRIP_HAS_DROPS = 25       /* either table has drops */
+    STRIP_UNLIKE = 24,         /* the two tables differ in b, t or w */
+    STRIP_HAS_DROPS = 25       /* one of the two tables drops bits, or both do */
 } strip_refusal;
+
+/* What a refusal means, in a sentence without a full stop; empty for STRIP_OK and for a number that no call gives. */
+static inline const char *strip_refusal_text(uint32_t number)
+{
+    static const char *const sentences[] = {
+        /* sentences */
+        "",
+        "the file does not begin with the header 01 00 06",
+        "a field is cut off",
+        "b is not from 1 to 12",
+        "q1 is not below b, or q2 or q3 is above 8",
+        "t is above 31, or w is not from 8 to 32",
+        "there are more than 16 rectangles",
+        "a field does not begin with 02 00 06",
+        "a lead is not from -15 to 15, a trail not from -16 to 14, or a trail is not below its lead",
+        "there is no rectangle",
+        "the largest or the smallest pixel does not fit w bits",
+        "the table is not one that loading accepts",
+        "the width is not from 1 to 1024",
+        "a store or an output is too short",
+        "the numbers of the scan do not agree",
+        "the scan is closed, or at a closing step it is not",
+        "65535 rows are in",
+        "the number of samples does not go with the width",
+        "a sample is above 2^b - 1 and not 65535, the mark of a dead one",
+        "a column sum, a count or a pixel cannot be: the stores or the scan are not those of the last call",
+        "the row or the column is outside the scan",
+        "samples handed over together are no whole rows",
+        "the rank is 0 or above the number of samples that the window covers",
+        "b is above 8, the most that a ranked window takes",
+        "the two tables differ in b, t or w",
+        "one of the two tables drops bits",
+        /* end */
+    };
+    return number < sizeof sentences / sizeof sentences[0] ? sentences[number] : "";
+}
 
 /* The kinds of an answer. */
 typedef enum {
@@ -213,9 +274,9 @@ typedef struct {
     int32_t value;
 } strip_pixel_answer;
 
-/* The pixel at row r, column c of a scan lent whole: n samples, row after row. Asks 11, 12, 17, 20, 18 (of all n samples). A dead sample
-   counts as said at STRIP_DEAD, also where the live one lies left of the rectangle. value: the pixel, the same that the scan calls
-   give; refused, 0. */
+/* The pixel at row r, column c of a scan lent whole: n samples, row after row. Asks 11, 12, 17, 20, 18 (of all n samples, so that every
+   call reads the whole scan: for many pixels use the calls of a scan). A dead sample counts as said at STRIP_DEAD, also where the live
+   one lies left of the rectangle. value: the pixel, the same that the scan calls give; refused, 0. */
 strip_pixel_answer strip_pixel(strip_table table, size_t width, const uint16_t *samples, size_t n, size_t r, size_t c);
 
 /* ---- two tables compared ---- */
@@ -260,9 +321,7 @@ typedef struct {
      samples   32 * width. Arrival a, a row or the zeros of a closing step, is kept from (a mod 32) * width on.
      counts    256 * width. At 256 * c + v stands how many samples of level v column c has in the rows of the scan that the window covers.
                Places of levels from 2^b on are neither read nor written after the start.
-     windows   256. Zero after every accepted row and closing step, also while waiting; what they held before does not matter.
-
-   A row and a closing step take about 5 KB of stack each. */
+     windows   256. Zero after every accepted row and closing step, also while waiting; what they held before does not matter. */
 typedef struct {
     strip_window window;
     uint8_t b;

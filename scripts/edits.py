@@ -2,7 +2,7 @@
 
     python3 scripts/edits.py CRATE            # all edits of the crate
     python3 scripts/edits.py CRATE LABEL..    # these edits
-    python3 scripts/edits.py --cost LOG       # what a run of the gate spent, by crate (build/ci.log)
+    python3 scripts/edits.py --cost LOG       # what a run of the gate spent, by crate (build/log/test.log)
 
 It works on a copy of the work tree, so crates that are proved stay proved. At the shape only: the proof names a place that the edited
 code does not have, which shows nothing about the promise. Under each edit stands how the refusal begins: read it.

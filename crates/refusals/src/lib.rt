@@ -18,7 +18,7 @@ q1 is not below b, or q2 or q3 is above 8
 t is above 31, or w is not from 8 to 32
 there are more than 16 rectangles
 a field does not begin with 02 00 06
-the edges of a rectangle are outside the limits or turned round
+a lead is not from -15 to 15, a trail not from -16 to 14, or a trail is not below its lead
 there is no rectangle
 the largest or the smallest pixel does not fit w bits
 the table is not one that loading accepts
@@ -28,8 +28,8 @@ the numbers of the scan do not agree
 the scan is closed, or at a closing step it is not
 65535 rows are in
 the number of samples does not go with the width
-a sample is above 2^b - 1
-a column sum, a count or a pixel cannot be: a store was altered between calls
+a sample is above 2^b - 1 and not 65535, the mark of a dead one
+a column sum, a count or a pixel cannot be: the stores or the scan are not those of the last call
 the row or the column is outside the scan
 samples handed over together are no whole rows
 the rank is 0 or above the number of samples that the window covers
