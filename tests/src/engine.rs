@@ -1,4 +1,4 @@
-//! The scan engine as the papers have it: its questions, its two stores and its steps, on any state and stores.
+//! The scan engine as the rules have it: its questions, its two stores and its steps, on any state and stores.
 
 use crate::ffi::{Answer, Burst, Rect, Scan, Started, Table, DONE, REFUSED, ROW, WAITING};
 use crate::pixel::{first_above, last_live, width_good, DEAD, MOST_ROWS};
@@ -28,8 +28,8 @@ fn stores_good(table: &Table, width: usize, samples: &[u16], sums: &[u32]) -> bo
     samples.len() >= KEPT * width && sums.len() >= table.count * width
 }
 
-/// Starting: 11, 12, 13; then the leading parts are zero. A refused start hands out the given table with width 0: the papers
-/// leave it free, the header says it.
+/// Starting: 11, 12, 13; then the leading parts are zero. A refused start hands out the given table with width 0
+/// (docs/RULES.md, section 5).
 pub fn start(table: &Table, width: usize, samples: &mut [u16], sums: &mut [u32]) -> Started {
     let begun = |refusal, width| Started {
         refusal,

@@ -1,4 +1,4 @@
-//! Outside tests: the library through its C interface beside a filter written separately from the papers.
+//! Outside tests: the library through its C interface beside a filter written separately from the rules.
 //!
 //! `cargo run --release` runs every case; `--seed S` takes another seed, `--case N` runs one case again.
 
@@ -56,7 +56,7 @@ fn wanted() -> Result<Wanted, String> {
     Ok(wanted)
 }
 
-/// One case; a panic of the papers' side counts as a failure of the case.
+/// One case; a panic of the side of the rules counts as a failure of the case.
 fn run_case(kind: &Kind, seed: u64, case: u64, index: u64, tally: &mut Tally) -> Outcome {
     let mut rng = Rng::new(seed, case);
     let run = AssertUnwindSafe(|| (kind.run)(&mut rng, tally, index));

@@ -1,4 +1,4 @@
-//! The ranked window as the papers have it: its questions, its stores and its steps, on any state and stores; and the rule
+//! The ranked window as the rules have it: its questions, its stores and its steps, on any state and stores; and the rule
 //! itself, by sorting the samples of a whole scan.
 
 use crate::engine::{Arrival, KEPT};
@@ -51,8 +51,8 @@ fn stores_good(width: usize, stores: &Counting) -> bool {
         && stores.windows.len() >= LEVELS
 }
 
-/// Starting: 3, 23, 8, 22, 12, 13; then the leading parts are zero. A refused start hands out what was given with width 0: the
-/// papers leave it free, the header says it.
+/// Starting: 3, 23, 8, 22, 12, 13; then the leading parts are zero. A refused start hands out what was given with width 0
+/// (docs/RULES.md, section 5).
 pub fn start(b: u8, window: Window, rank: u32, width: usize, stores: Counting) -> Started<Rank> {
     let begun = |refusal, width| Started {
         refusal,

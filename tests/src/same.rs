@@ -1,4 +1,4 @@
-//! Comparing two tables, as the papers have it: offset by offset of their weight grids.
+//! Comparing two tables, as the rules have it: offset by offset of their weight grids.
 
 use crate::ffi::{SameAnswer, Table};
 use crate::table::{accepted, grid, largest_sample, no_drops};

@@ -1,4 +1,4 @@
-//! Tables as the papers have them: the file, the questions 1 to 11, writing, and the figures M, N and D.
+//! Tables as the rules have them: the file, the questions 1 to 11, writing, and the figures M, N and D.
 
 use crate::ffi::{Loaded, Rect, Table, Written};
 
@@ -205,7 +205,7 @@ pub fn load(bytes: &[u8]) -> Result<Table, u32> {
     Ok(table)
 }
 
-/// What the loading call answers. A refused file hands out a table of zeros: the papers leave it free, the header says it.
+/// What the loading call answers. A refused file hands out a table of zeros (docs/RULES.md, section 5).
 pub fn loaded(bytes: &[u8]) -> Loaded {
     match load(bytes) {
         Ok(table) => Loaded {

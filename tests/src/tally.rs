@@ -24,7 +24,7 @@ const NUMBERS: [(&str, &[u32]); 14] = [
     ("rank step", &[0, 14, 15, 13, 19]),
 ];
 
-/// The last refusal that the papers have.
+/// The last refusal that the rules have.
 const LAST: u32 = 25;
 
 /// Situations that have to come up.
@@ -245,13 +245,13 @@ fn listed<K: Display>(times: &BTreeMap<K, u64>) -> String {
     list.join(", ")
 }
 
-/// The library's answer has to be the papers'.
-pub fn same<T: PartialEq + Debug + ?Sized>(what: &str, library: &T, papers: &T) -> Outcome {
-    if library == papers {
+/// The library's answer has to be the rules'.
+pub fn same<T: PartialEq + Debug + ?Sized>(what: &str, library: &T, rules: &T) -> Outcome {
+    if library == rules {
         return Ok(());
     }
     Err(format!(
-        "{what}\n  library: {library:?}\n  papers:  {papers:?}"
+        "{what}\n  library: {library:?}\n  rules:   {rules:?}"
     ))
 }
 

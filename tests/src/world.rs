@@ -1,4 +1,4 @@
-//! Two equal sets of stores: the library works on one, the papers' engine on the other, and they stay equal.
+//! Two equal sets of stores: the library works on one, the engine of the rules on the other, and they stay equal.
 
 pub mod ranked;
 
@@ -51,32 +51,32 @@ impl<T: Copy + PartialEq + Debug> Lent<T> {
         &mut self.all[MARGIN + index]
     }
 
-    fn compare(&self, what: &str, papers: &Lent<T>) -> Outcome {
-        if self.all == papers.all {
+    fn compare(&self, what: &str, rules: &Lent<T>) -> Outcome {
+        if self.all == rules.all {
             return Ok(());
         }
-        let index = (0..self.all.len()).find(|&i| self.all[i] != papers.all[i]);
+        let index = (0..self.all.len()).find(|&i| self.all[i] != rules.all[i]);
         let i = index.expect("stores of one length");
         Err(format!(
-            "{what}, place {} of {}: library {:?}, papers {:?}",
+            "{what}, place {} of {}: library {:?}, rules {:?}",
             i as i64 - MARGIN as i64,
             self.given,
             self.all[i],
-            papers.all[i]
+            rules.all[i]
         ))
     }
 }
 
 /// The stores and the output of one side.
 pub trait Stores: Clone {
-    fn compare(&self, papers: &Self) -> Outcome;
+    fn compare(&self, rules: &Self) -> Outcome;
 }
 
 /// The stores of both sides.
 pub struct Twins<'a, W> {
     pub tally: &'a mut Tally,
     library: W,
-    papers: W,
+    rules: W,
 }
 
 impl<'a, W: Stores> Twins<'a, W> {
@@ -84,28 +84,28 @@ impl<'a, W: Stores> Twins<'a, W> {
         Twins {
             tally,
             library: world.clone(),
-            papers: world,
+            rules: world,
         }
     }
 
     /// A copy of the stores, to be put back later.
     pub fn keep(&self) -> W {
-        self.papers.clone()
+        self.rules.clone()
     }
 
     pub fn put_back(&mut self, world: &W) {
         self.library = world.clone();
-        self.papers = world.clone();
+        self.rules = world.clone();
     }
 
     /// Nothing has been written since the two were last equal.
     fn untouched(&self, call: &str) -> Outcome {
-        let compared = self.library.compare(&self.papers);
+        let compared = self.library.compare(&self.rules);
         compared.map_err(|wrong| format!("{call} without effect changed a store: {wrong}"))
     }
 
     fn equal_after(&self, call: &str) -> Outcome {
-        let compared = self.library.compare(&self.papers);
+        let compared = self.library.compare(&self.rules);
         compared.map_err(|wrong| format!("after {call}: {wrong}"))
     }
 
@@ -122,12 +122,12 @@ impl<'a, W: Stores> Twins<'a, W> {
         &mut self,
         call: &'static str,
         library: &Answer<S>,
-        papers: &Answer<S>,
+        rules: &Answer<S>,
     ) -> Outcome {
-        same(call, library, papers)?;
+        same(call, library, rules)?;
         self.equal_after(call)?;
-        let number = if papers.kind == REFUSED {
-            papers.number
+        let number = if rules.kind == REFUSED {
+            rules.number
         } else {
             0
         };
@@ -145,10 +145,10 @@ pub struct World {
 }
 
 impl Stores for World {
-    fn compare(&self, papers: &World) -> Outcome {
-        self.samples.compare("sample store", &papers.samples)?;
-        self.sums.compare("sum store", &papers.sums)?;
-        self.out.compare("output", &papers.out)
+    fn compare(&self, rules: &World) -> Outcome {
+        self.samples.compare("sample store", &rules.samples)?;
+        self.sums.compare("sum store", &rules.sums)?;
+        self.out.compare("output", &rules.out)
     }
 }
 
@@ -200,7 +200,7 @@ impl<'a> Bench<'a> {
     }
 
     pub fn lend(&mut self, lengths: Lengths) {
-        for world in [&mut self.library, &mut self.papers] {
+        for world in [&mut self.library, &mut self.rules] {
             world.samples.lend(lengths.samples);
             world.sums.lend(lengths.sums);
             world.out.lend(lengths.out);
@@ -210,30 +210,30 @@ impl<'a> Bench<'a> {
     /// What is lent now.
     pub fn lent(&self) -> Lengths {
         Lengths {
-            samples: self.papers.samples.given,
-            sums: self.papers.sums.given,
-            out: self.papers.out.given,
+            samples: self.rules.samples.given,
+            sums: self.rules.sums.given,
+            out: self.rules.out.given,
         }
     }
 
     pub fn set_sample(&mut self, index: usize, sample: u16) {
         *self.library.samples.place(index) = sample;
-        *self.papers.samples.place(index) = sample;
+        *self.rules.samples.place(index) = sample;
     }
 
     pub fn set_sum(&mut self, index: usize, sum: u32) {
         *self.library.sums.place(index) = sum;
-        *self.papers.sums.place(index) = sum;
+        *self.rules.sums.place(index) = sum;
     }
 
     /// The sample store as it is lent.
     pub fn samples(&self) -> &[u16] {
-        self.papers.samples.read()
+        self.rules.samples.read()
     }
 
     /// The sum store as it is lent.
     pub fn sums(&self) -> &[u32] {
-        self.papers.sums.read()
+        self.rules.sums.read()
     }
 
     /// A 19 for the pixels due, which only a table that the old rule refuses can get.
@@ -263,40 +263,40 @@ impl<'a> Bench<'a> {
         if library.refusal != 0 {
             self.untouched("start")?;
         }
-        let world = &mut self.papers;
+        let world = &mut self.rules;
         let (samples, sums) = (world.samples.part(), world.sums.part());
-        let papers = engine::start(table, width, samples, sums);
-        same("start", &library, &papers)?;
+        let rules = engine::start(table, width, samples, sums);
+        same("start", &library, &rules)?;
         self.equal_after("start")?;
-        self.tally.answered("start", papers.refusal);
-        Ok(papers)
+        self.tally.answered("start", rules.refusal);
+        Ok(rules)
     }
 
     pub fn close(&mut self, scan: &Scan) -> Result<Started, String> {
         let library = ffi::scan_close(scan);
-        let papers = engine::close(scan);
-        same("close", &library, &papers)?;
-        self.tally.answered("close", papers.refusal);
-        Ok(papers)
+        let rules = engine::close(scan);
+        same("close", &library, &rules)?;
+        self.tally.answered("close", rules.refusal);
+        Ok(rules)
     }
 
     pub fn row(&mut self, scan: &Scan, row: &[u16]) -> Result<Answer, String> {
         let w = &mut self.library;
         let library = ffi::scan_row(scan, row, w.samples.part(), w.sums.part(), w.out.part());
         self.idle("row", scan, &library)?;
-        let w = &mut self.papers;
-        let papers = engine::row(scan, row, w.samples.part(), w.sums.part(), w.out.part());
-        self.agree("row", &library, &papers)?;
-        self.tally.saw_if("row out", papers.kind == ROW);
-        self.tally.saw_if("waiting", papers.kind == WAITING);
-        if papers.kind == REFUSED {
-            let said = (papers.number, papers.place);
+        let w = &mut self.rules;
+        let rules = engine::row(scan, row, w.samples.part(), w.sums.part(), w.out.part());
+        self.agree("row", &library, &rules)?;
+        self.tally.saw_if("row out", rules.kind == ROW);
+        self.tally.saw_if("waiting", rules.kind == WAITING);
+        if rules.kind == REFUSED {
+            let said = (rules.number, rules.place);
             self.note_word("19 place K in a row", &scan.table, said)?;
         }
-        if papers.kind != REFUSED {
+        if rules.kind != REFUSED {
             self.note_dead(row);
         }
-        Ok(papers)
+        Ok(rules)
     }
 
     /// The dead elements of a row that was taken.
@@ -315,37 +315,37 @@ impl<'a> Bench<'a> {
             self.untouched("rows")?;
             same("state after no row", &library.scan, scan)?;
         }
-        let w = &mut self.papers;
+        let w = &mut self.rules;
         let (samples, sums, out) = (w.samples.part(), w.sums.part(), w.out.part());
-        let papers = engine::rows_together(scan, rows, samples, sums, out);
-        same("rows", &library, &papers)?;
+        let rules = engine::rows_together(scan, rows, samples, sums, out);
+        same("rows", &library, &rules)?;
         self.equal_after("rows")?;
-        self.tally.answered("rows", papers.refusal);
-        let said = (papers.refusal, papers.place);
+        self.tally.answered("rows", rules.refusal);
+        let said = (rules.refusal, rules.place);
         self.note_word("19 place K in a burst", &scan.table, said)?;
-        if papers.taken > 1 {
-            let taken: Vec<&[u16]> = rows.chunks(scan.width).take(papers.taken).collect();
+        if rules.taken > 1 {
+            let taken: Vec<&[u16]> = rows.chunks(scan.width).take(rules.taken).collect();
             let across = |two: &[&[u16]]| last_live(two[0]) > 0 && two[1][0] == DEAD;
             let across = taken.windows(2).any(across);
             self.tally.saw_if("burst with dead across rows", across);
         }
-        Ok(papers)
+        Ok(rules)
     }
 
     pub fn step(&mut self, scan: &Scan) -> Result<Answer, String> {
         let w = &mut self.library;
         let library = ffi::scan_step(scan, w.samples.part(), w.sums.part(), w.out.part());
         self.idle("step", scan, &library)?;
-        let w = &mut self.papers;
-        let papers = engine::step(scan, w.samples.part(), w.sums.part(), w.out.part());
-        self.agree("step", &library, &papers)?;
-        self.tally.saw_if("step: row out", papers.kind == ROW);
-        self.tally.saw_if("step: waiting", papers.kind == WAITING);
-        self.tally.saw_if("step: done", papers.kind == DONE);
-        if papers.kind == REFUSED {
-            let said = (papers.number, papers.place);
+        let w = &mut self.rules;
+        let rules = engine::step(scan, w.samples.part(), w.sums.part(), w.out.part());
+        self.agree("step", &library, &rules)?;
+        self.tally.saw_if("step: row out", rules.kind == ROW);
+        self.tally.saw_if("step: waiting", rules.kind == WAITING);
+        self.tally.saw_if("step: done", rules.kind == DONE);
+        if rules.kind == REFUSED {
+            let said = (rules.number, rules.place);
             self.note_word("19 place K in a step", &scan.table, said)?;
         }
-        Ok(papers)
+        Ok(rules)
     }
 }

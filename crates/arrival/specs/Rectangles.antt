@@ -85,7 +85,7 @@ pub record Zeros (width : ℕ) (zeros : List ℕ) : Type 0 where
   pub long : width ≤ length zeros
   pub none : (i : ℕ) → getD zeros i 0 ≡ 0
 
--- `edge_row`: numbers within the paper's limits, and the row and the store of their lengths
+-- `edge_row`: numbers within the limits, and the row and the store of their lengths
 pub record EdgeFits (l a delay : ℕ) (row samples zeros : List ℕ) : Type 0 where
   pub width-most : l ≤ 1024
   pub number-most : a ≤ 65550

@@ -73,6 +73,6 @@ burstAsks s rows out = asks 14 (agrees s) ∷ asks 15 (not (s .closed)) ∷ asks
 unfoldable pub burstOf : World → (rows : List ℕ) → (out : List ℤ) → Left World
 burstOf w rows out = firstNo (burstAsks (w .scan) (length rows) (length out)) (noRows w out) (allRows rowOf (w .scan .width) w rows out)
 
--- a burst's answer in the papers' numbers
+-- a burst's answer in the rules' numbers
 abbrev pub burstSaid : Burst → Said
 burstSaid b = withCounts (said (b .verdict)) (b .taken) (b .filtered)

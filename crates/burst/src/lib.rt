@@ -1,5 +1,8 @@
 // Bursts: several rows of a scan handed over in one call, each as the scan engine takes it alone. Where a row is refused,
 // the burst stops, and what the rows before it left stands.
+//
+//   rows  how many rows were taken, how many filtered rows stand packed in the output, and the refusal of the first row that is refused; or
+//         14, 15, 21 or 13 before any row
 mod handing;
 
 pub use handing::rows;

@@ -1,4 +1,7 @@
 // What the words of stripfilter's command line come to, word by word.
+//
+//   next   what the command line comes to with one word more
+//   ended  what it comes to when there are no more words
 mod words;
 
 pub use words::ended;

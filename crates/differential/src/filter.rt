@@ -1,4 +1,4 @@
-// The filter as the paper defines it, written apart from the engine: each pixel adds every covered sample afresh.
+// The filter as the rules define it, written apart from the engine: each pixel adds every covered sample afresh.
 // Offsets from the pixel run from -15 to 15, the farthest that an edge may lie; an offset o is held as o + 15, and a
 // row or a column of the scan p as p + 15.
 ghost use Prim.Native.Nat.{_+_, _*_, _≤_, _<_};

@@ -1,6 +1,12 @@
 // What stripfilter decides, each call one equation with a definition of specs/: whether the table and the scan's header are taken,
 // how many bytes to read and how many samples to hand to the engine, and what is said of a fault, byte for byte. Nothing here reads
 // or writes; the program moves the bytes between these calls.
+//
+//   table_fault, judge, row_fault  what is wrong with the table, the header and a row, or what is to be done with them
+//   put_fault, put_answer          the line for a fault, and the answers to --help, --version and a wrong command line
+//   read_most, whole_part          how many bytes to read, and how many samples go to the engine
+//   rows_left, packed, forward     what is still to come, what came out, and what is moved to the start of the store
+//   centred                        the edges of a window of so many rows or columns around its place
 mod judging;
 mod moving;
 mod saying;

@@ -1,4 +1,4 @@
--- What a call says, in the papers' numbers; its questions; and what it leaves.
+-- What a call says, in the rules' numbers; its questions; and what it leaves.
 -- Assumes nothing.
 use Prim.Native.Nat.{ℕ, _-_}
 use mathlib.Core.Bool.{Bool, cond}

@@ -1,5 +1,10 @@
 // A table by value, in the file's own widths, and the figures that follow from it: rows and columns of a
-// rectangle, word lengths, delay. The answers of the calls, and in specs/ what they say in the papers' numbers.
+// rectangle, word lengths, delay. The answers of the calls, and in specs/ what they say in the rules' numbers.
+//
+//   rows, columns             M and N of a rectangle
+//   column_word, window_word  the word lengths of a rectangle, formulas (6) and (7)
+//   delay                     D, the delay of a table
+//   due_row, due_step         what an arrival answers with a delay: a row, or waiting
 mod dues;
 mod measure;
 

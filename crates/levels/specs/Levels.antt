@@ -20,7 +20,7 @@ countOf counts v = getD counts v 0
 abbrev pub one : (times x v : ℕ) → ℕ
 one times x v = cond (eqb x v) times 0
 
--- formula (6) of source document 001: the count of level v when x has left and y has entered
+-- formula (6) of source 2 of docs/RULES.md: the count of level v when x has left and y has entered
 unfoldable pub movedCount : (count : ℕ → ℕ) → (x less y more v : ℕ) → ℕ
 movedCount count x less y more v = count v - one less x v + one more y v
 

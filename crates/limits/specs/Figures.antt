@@ -10,7 +10,7 @@ use Rattle.limits.specs.Limits.{bitsGood, dropsGood}
 use Rattle.layout.specs.Measure.{lossFigure}
 use Rattle.layout.specs.Answers.{Said, refused, accepted, asks, firstNo}
 
--- an answer in the papers' numbers
+-- an answer in the rules' numbers
 abbrev pub figureSaid : Figure → Said
 figureSaid (Loss n) = accepted (pos n ∷ [])
 figureSaid (NoFigure number place) = refused number place

@@ -1,4 +1,4 @@
--- A machine that the papers' rules allow, and that every call leaves it so.
+-- A machine that the rules allow, and that every call leaves it so.
 -- Assumes nothing.
 use Prim.Native.Nat.{ℕ, _≤_, _<_, zero-le}
 use native.Mathlib.Omega.{arith}

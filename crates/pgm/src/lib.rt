@@ -1,5 +1,13 @@
 // Binary PGM pictures: the header of one that comes in, the samples of its rows, and the picture of 16 or of 8 bits or the decimal
 // text of filtered rows that go out.
+//
+//   header         width, height, maxval and length of a PGM header; that it goes on; or what is wrong with it and where
+//   decode         the samples of a row, and how many
+//   encode         a row of the 16-bit picture, two bytes a pixel, and how many pixels
+//   encode_levels  a row of levels, a byte each, and how many
+//   line           a row of pixels as decimal numbers, and the length of the text
+//   head           the header of the picture, and its length
+//   number         the number that begins at a place, 65,536 where it is larger, and where its digits end
 mod levels;
 mod lexing;
 mod parsing;

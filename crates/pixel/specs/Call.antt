@@ -13,7 +13,7 @@ use Rattle.rule.specs.Pixels.{pixelOf}
 use Rattle.pixel.specs.declared.Found.{Found}
 use Rattle.pixel.specs.declared.Found.the-variants.{Pixel, Refused as NoPixel}
 
--- an answer in the papers' numbers
+-- an answer in the rules' numbers
 abbrev pub foundSaid : Found → Said
 foundSaid (Pixel p) = accepted (p ∷ [])
 foundSaid (NoPixel number place) = refused number place

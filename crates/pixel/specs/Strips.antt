@@ -1,4 +1,4 @@
--- The papers' marked strips, all of them.
+-- The marked strips of docs/RULES.md, all of them.
 -- Assumes nothing.
 use Prim.Native.Nat.{ℕ, _+_, _/_, _%_}
 use mathlib.Core.Bool.{Bool, true, false, _&&_}

@@ -2,6 +2,11 @@
 // that at least R of the covered samples inside the scan are not above it; if fewer than R are inside the largest of them, and -1 if none
 // is. A scan goes row by row as the filter's does, with counts per level carried along columns and windows in stores that are lent to
 // each call. Where a call is refused, each store is what it was. That the carried counts give the rule is proved in `rankrun`.
+//
+//   start  a ranked scan; or a refusal, 3, 23, 8, 22, 12 or 13
+//   row    a row of levels in the output with its number, waiting, or a refusal: 14, 15, 16, 17, 13, 18 or 19
+//   close  the scan closed; or a refusal, 14 or 15
+//   step   a row of levels, waiting, done, or a refusal: 14, 15, 13 or 19
 mod rows;
 mod starts;
 mod state;

@@ -1,4 +1,4 @@
--- Question 19 as the engine asks it is question 19 in the paper's words: a row that is passed over stands as zeros that count nothing.
+-- Question 19 as the engine asks it is question 19 in the rules' words: a row that is passed over stands as zeros that count nothing.
 -- Assumes nothing.
 use Prim.Native.Nat.{ℕ, _+_, _-_, _^_, zero-le}
 use mathlib.Core.Path.{_≡_, refl, ap, ap₂}

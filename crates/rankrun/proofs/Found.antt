@@ -1,4 +1,4 @@
--- The level of a rank in counts: formula (2) of source document 001, and that it is one of the levels counted.
+-- The level of a rank in counts: formula (2) of source 2 of docs/RULES.md, and that it is one of the levels counted.
 -- Assumes nothing.
 use Prim.Native.Nat.{ℕ, zero, suc, _+_, _≤_, _<_}
 use native.Mathlib.Decide.{ℕ-discrete}

@@ -1,4 +1,4 @@
--- The rule of a ranked window: by the counts of its levels, by formula (2) of source document 001, and what it depends on.
+-- The rule of a ranked window: by the counts of its levels, by formula (2) of source 2 of docs/RULES.md, and what it depends on.
 -- Assumes nothing.
 use Prim.Native.Nat.{ℕ, _-_, _^_, _≤_, _<_}
 use native.Mathlib.Omega.{arith}

@@ -1,4 +1,4 @@
--- Question 19 of a ranked window, in the paper's words.
+-- Question 19 of a ranked window, in the rules' words.
 -- Assumes nothing.
 use Prim.Native.Nat.{ℕ, _+_, _-_, _^_}
 use mathlib.Core.Bool.{Bool, true, cond, _&&_}

@@ -58,7 +58,7 @@ shadeOf s b d R r c =
     cond (leb R (insideCount s d r c)) (pos (firstNot (2 ^ b) (λ v. ltb (notAbove s d v r c) R)))
     (cond (eqb (insideCount s d r c) 0) (negsuc 0) (pos (largestInside s d r c)))
 
--- formula (2) of source document 001: fewer than R are counted below level k, and at least R up to it
+-- formula (2) of source 2 of docs/RULES.md: fewer than R are counted below level k, and at least R up to it
 pub record RankAt (count : ℕ → ℕ) (R k : ℕ) : Type 0 where
   pub before : sum k count < R
   pub reached : R ≤ sum (k + 1) count

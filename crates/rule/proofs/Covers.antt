@@ -64,7 +64,7 @@ offsets-within n γ δ m =
           record { least = diff-le g q (omega arith); most = diff-le q last (omega arith) },
     )
 
--- source document 000: the places n - m for m from γ to δ - 1 are those that lead -γ and trail -δ cover at n
+-- source 3 of docs/RULES.md: the places n - m for m from γ to δ - 1 are those that lead -γ and trail -δ cover at n
 pub covered-by-offsets : (n γ δ m : ℤ) → WithinOffsets γ δ m ↔ IsCovered n (negℤ δ) (posPart (negℤ γ -ℤ negℤ δ)) (n -ℤ m)
 covered-by-offsets n γ δ m =
     let c = covered-within n (negℤ γ) (negℤ δ) (n -ℤ m) in

@@ -1,4 +1,4 @@
--- Which places are covered: by their numbers, by the edges, and by the offsets of source document 000.
+-- Which places are covered: by their numbers, by the edges, and by the offsets of source 3 of docs/RULES.md.
 -- Assumes nothing.
 use Prim.Native.Nat.{ℕ, _<_}
 use mathlib.Core.Path.{_≡_}

@@ -17,7 +17,7 @@ use Rattle.limits.specs.Limits.{noDrops, acceptable}
 use Rattle.same.specs.declared.Sameness.{Sameness}
 use Rattle.same.specs.declared.Sameness.the-variants.{Same, Differs, Refused as NotCompared}
 
--- an answer in the papers' numbers: same, with no value; or differs, with the row and the column of the offset
+-- an answer in the rules' numbers: same, with no value; or differs, with the row and the column of the offset
 abbrev pub samenessSaid : Sameness → Said
 samenessSaid Same = accepted []
 samenessSaid (Differs row col) = accepted (row ∷ col ∷ [])

@@ -1,5 +1,11 @@
 // The scan engine: a scan row by row, with the column sums carried along. The state is a value; samples, sums and the
 // filtered row stand in stores that are lent to each call. Where a call is refused, each store is what it was.
+//
+//   start       a scan; or a refusal, 11, 12 or 13
+//   row         a filtered row in the output with its number, waiting, or a refusal: 14, 15, 16, 17, 13, 18 or 19
+//   close       the scan closed; or a refusal, 14 or 15
+//   step        a filtered row, waiting, done, or a refusal: 14, 15, 13 or 19
+//   state_good  question 14
 mod rows;
 mod starts;
 mod state;

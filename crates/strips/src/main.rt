@@ -1,4 +1,4 @@
-// The papers' strips that carry no mark, executed, with the questions and traps around them. The strips stand in the
+// The strips of docs/RULES.md that carry no mark, executed, with the questions and traps around them. The strips stand in the
 // input, a command to a line; what is written is each line, with the answer after it.
 //
 //   # words                       a title

@@ -13,7 +13,7 @@ use Rattle.layout.specs.Answers.{Said, refused, accepted, asks, firstNo, Wrote,
 use Rattle.limits.specs.Limits.{acceptable}
 use Rattle.table.specs.Format.{encode}
 
--- an answer in the papers' numbers
+-- an answer in the rules' numbers
 abbrev pub writtenSaid : Written → Said
 writtenSaid (Length n) = accepted (pos n ∷ [])
 writtenSaid (NotWritten number place) = refused number place

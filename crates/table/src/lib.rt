@@ -1,4 +1,10 @@
 // The table file: loading it, checking it, and writing it.
+//
+//   load         the verdict and the table, by questions 1 to 10
+//   parse        the same without question 10
+//   table_check  0 or the number of the refusal
+//   read_most    156: how many bytes of a file decide what loading answers
+//   write        the length 9 + 9·(rectangles), the file at the start of the output; or a refusal, 11 or 13
 mod loading;
 mod reading;
 mod writing;

@@ -9,12 +9,12 @@ use crate::tally::{holds, same, Outcome, Tally};
 /// Asks check and load for a file, and writes it back if it is accepted. Answers the number.
 fn ask(tally: &mut Tally, bytes: &[u8]) -> Result<u32, String> {
     let told = |wrong: String| format!("file {bytes:02x?}: {wrong}");
-    let papers = table::loaded(bytes);
+    let rules = table::loaded(bytes);
     let number = ffi::table_check(bytes);
-    same("check", &number, &papers.refusal).map_err(told)?;
+    same("check", &number, &rules.refusal).map_err(told)?;
     tally.answered("check", number);
     let library = ffi::table_load(bytes);
-    same("load", &library, &papers).map_err(told)?;
+    same("load", &library, &rules).map_err(told)?;
     tally.answered("load", number);
     if number == 0 {
         written_back(tally, bytes, &library.table).map_err(told)?;

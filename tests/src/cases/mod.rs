@@ -34,7 +34,7 @@ const fn kind(
 
 /// Cases are numbered through in this order.
 pub const KINDS: [Kind; 25] = [
-    kind("strips of the paper", strips::COUNT, strips::case),
+    kind("strips of the rules", strips::COUNT, strips::case),
     kind("files at the limits", 60_000, files::limits),
     kind("files at question 10", 10_000, files::question_10),
     kind("files at the grid's edge", 10_000, files::grid_edge),

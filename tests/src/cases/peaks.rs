@@ -63,10 +63,10 @@ fn side(rng: &mut Rng, tally: &mut Tally, table: &Table, positive: bool) -> Resu
     let extreme = if positive { high } else { low };
     same("the extreme", &i128::from(value), &extreme)?;
     let found = ffi::pixel(table, SIDE, &samples, CENTRE, CENTRE);
-    let papers = pixel::answer(table, SIDE, &samples, CENTRE, CENTRE);
-    same("the peak by the one-pixel call", &found, &papers)?;
-    tally.answered("pixel", papers.refusal);
-    if papers.refusal == 0 {
+    let rules = pixel::answer(table, SIDE, &samples, CENTRE, CENTRE);
+    same("the peak by the one-pixel call", &found, &rules)?;
+    tally.answered("pixel", rules.refusal);
+    if rules.refusal == 0 {
         let came_out = centre(rng, tally, table, &samples)?;
         same("the peak by the engine", &i64::from(came_out), &value)?;
         let half = 1i64 << (table.w - 1);

@@ -16,11 +16,11 @@ fn ask(
     c: usize,
 ) -> Outcome {
     let library = ffi::pixel(table, width, samples, r, c);
-    let papers = pixel::answer(table, width, samples, r, c);
-    tally.answered("pixel", papers.refusal);
-    let left = papers.refusal == 0 && Strip { width, samples }.looks_left(table, r, c);
+    let rules = pixel::answer(table, width, samples, r, c);
+    tally.answered("pixel", rules.refusal);
+    let left = rules.refusal == 0 && Strip { width, samples }.looks_left(table, r, c);
     tally.saw_if("dead before the rectangle", left);
-    same("pixel", &library, &papers).map_err(|wrong| {
+    same("pixel", &library, &rules).map_err(|wrong| {
         let shown = &samples[..samples.len().min(400)];
         format!("{table:?} width {width} row {r} column {c} samples {shown:?}: {wrong}")
     })

@@ -166,8 +166,8 @@ fn shown(tally: &mut Tally, one: &Table, other: &Table, k: usize, samples: &[u16
     let (mut values, mut pixels) = (Vec::new(), Vec::new());
     for table in [one, other] {
         let library = ffi::pixel(table, SIDE, samples, CENTRE, CENTRE);
-        let papers = pixel::answer(table, SIDE, samples, CENTRE, CENTRE);
-        same("the spot by the one-pixel call", &library, &papers)?;
+        let rules = pixel::answer(table, SIDE, samples, CENTRE, CENTRE);
+        same("the spot by the one-pixel call", &library, &rules)?;
         holds("the spot is taken", library.refusal == 0)?;
         tally.answered("pixel", library.refusal);
         let value = strip.value(table, CENTRE, CENTRE);
@@ -231,26 +231,26 @@ pub fn case(rng: &mut Rng, tally: &mut Tally, _: u64) -> Outcome {
     let length = rng.pick(&[0, SPOT - 1, SPOT, SPOT, SPOT, SPOT + 1, 2000]);
     // Room beyond what is lent shows that nothing is written there.
     let before: Vec<u16> = (0..length + 8).map(|_| rng.next() as u16).collect();
-    let (mut library_scan, mut papers_scan) = (before.clone(), before);
+    let (mut library_scan, mut rules_scan) = (before.clone(), before);
     let library = ffi::same(&one, &other, &mut library_scan[..length]);
-    let papers = compared(&one, &other, &mut papers_scan[..length]);
+    let rules = compared(&one, &other, &mut rules_scan[..length]);
     let told = |wrong: String| format!("{one:?} beside {other:?}, {length} places: {wrong}");
-    same("same", &library, &papers).map_err(told)?;
-    same("scan", &library_scan, &papers_scan).map_err(told)?;
-    tally.answered("same", papers.refusal);
-    seen(tally, &one, &other, papers.refusal);
-    if papers.refusal == 13 {
+    same("same", &library, &rules).map_err(told)?;
+    same("scan", &library_scan, &rules_scan).map_err(told)?;
+    tally.answered("same", rules.refusal);
+    seen(tally, &one, &other, rules.refusal);
+    if rules.refusal == 13 {
         tally.saw_if("same: 13 though they do the same", equal);
     }
-    if papers.refusal != 0 {
+    if rules.refusal != 0 {
         return Ok(());
     }
-    if papers.same {
+    if rules.same {
         let cut = rects(&one).len() != rects(&other).len();
         tally.saw_if("same: cut another way", cut);
         return alike(rng, &one, &other).map_err(told);
     }
-    let (row, col) = (papers.row, papers.col);
+    let (row, col) = (rules.row, rules.col);
     tally.saw_if("same: differs at (-15, -15)", (row, col) == (-15, -15));
     tally.saw_if("same: differs at (15, 15)", (row, col) == (15, 15));
     let k = (row + 15) as usize * SIDE + (col + 15) as usize;

@@ -140,9 +140,9 @@ impl Running<'_> {
         };
         for c in columns(rng, &table, width) {
             let library = i64::from(self.bench.output()[c]);
-            let papers = strip.pixel(&table, self.out, c);
+            let rules = strip.pixel(&table, self.out, c);
             let what = format!("pixel at row {} column {c} by its definition", self.out);
-            same(&what, &library, &papers)?;
+            same(&what, &library, &rules)?;
         }
         self.out += 1;
         Ok(())

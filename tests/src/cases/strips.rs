@@ -1,4 +1,4 @@
-//! The strips of the paper, with the numbers that the paper gives; those of the ranked window and of altered sums are worked out by hand.
+//! The strips of the rules, with the numbers that docs/RULES.md gives; those of the ranked window and of altered sums are worked out by hand.
 
 use crate::engine;
 use crate::ffi::{
@@ -46,7 +46,7 @@ const TABLE_A: [u8; 27] = [
     0x00, 0x01, 0x02, 0x00, 0x06, 0x00, 0x00, 0xFF, 0xFF, 0xFF, 0xF7,
 ];
 
-/// Library and papers' loader both answer `number`.
+/// Library and loader of the rules both answer `number`.
 fn load_says(what: &str, bytes: &[u8], number: u32) -> Outcome {
     same(what, &ffi::table_check(bytes), &number)?;
     same(what, &ffi::table_load(bytes).refusal, &number)?;
@@ -64,8 +64,8 @@ fn pixel_is(
 ) -> Outcome {
     let library = ffi::pixel(t, width, samples, rc.0, rc.1);
     same(what, &(library.refusal, library.value), &(0, value))?;
-    let papers = pixel::answer(t, width, samples, rc.0, rc.1);
-    same(what, &(papers.refusal, papers.value), &(0, value))
+    let rules = pixel::answer(t, width, samples, rc.0, rc.1);
+    same(what, &(rules.refusal, rules.value), &(0, value))
 }
 
 fn table_a_pixels(rng: &mut Rng, tally: &mut Tally) -> Outcome {
@@ -391,12 +391,12 @@ fn shapes(list: &[[i8; 5]]) -> Table {
     t
 }
 
-/// Library and papers both answer this of two tables, and write the same.
+/// Library and rules both answer this of two tables, and write the same.
 fn comparing(what: &str, one: &Table, other: &Table, places: usize, told: SameAnswer) -> Outcome {
-    let (mut library, mut papers) = (vec![7; places], vec![7; places]);
+    let (mut library, mut rules) = (vec![7; places], vec![7; places]);
     same(what, &ffi::same(one, other, &mut library), &told)?;
-    same(what, &compared(one, other, &mut papers), &told)?;
-    same(what, &library, &papers)?;
+    same(what, &compared(one, other, &mut rules), &told)?;
+    same(what, &library, &rules)?;
     let written = library.iter().any(|&sample| sample != 7);
     same(what, &written, &(told.refusal == 0 && !told.same))
 }

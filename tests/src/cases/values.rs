@@ -28,12 +28,12 @@ pub fn written(rng: &mut Rng, tally: &mut Tally, _: u64) -> Outcome {
     let length = rng.pick(&lengths);
     // Room beyond what is lent shows that nothing is written there.
     let before: Vec<u8> = (0..length + 8).map(|_| rng.next() as u8).collect();
-    let (mut library_out, mut papers_out) = (before.clone(), before);
+    let (mut library_out, mut rules_out) = (before.clone(), before);
     let library = ffi::table_write(&table, &mut library_out[..length]);
-    let papers = table::write(&table, &mut papers_out[..length]);
+    let rules = table::write(&table, &mut rules_out[..length]);
     let told = |wrong: String| format!("{table:?} into {length} bytes: {wrong}");
-    same("write", &library, &papers).map_err(told)?;
-    same("output", &library_out, &papers_out).map_err(told)?;
+    same("write", &library, &rules).map_err(told)?;
+    same("output", &library_out, &rules_out).map_err(told)?;
     tally.answered("write", library.refusal);
     let room = library.refusal == 0 && length > needed;
     tally.saw_if("output longer than the file", room);

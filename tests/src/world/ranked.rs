@@ -29,11 +29,11 @@ impl RankWorld {
 }
 
 impl Stores for RankWorld {
-    fn compare(&self, papers: &RankWorld) -> Outcome {
-        self.samples.compare("sample store", &papers.samples)?;
-        self.counts.compare("column counts", &papers.counts)?;
-        self.windows.compare("window counts", &papers.windows)?;
-        self.out.compare("output", &papers.out)
+    fn compare(&self, rules: &RankWorld) -> Outcome {
+        self.samples.compare("sample store", &rules.samples)?;
+        self.counts.compare("column counts", &rules.counts)?;
+        self.windows.compare("window counts", &rules.windows)?;
+        self.out.compare("output", &rules.out)
     }
 }
 
@@ -76,7 +76,7 @@ impl<'a> RankBench<'a> {
     }
 
     pub fn lend(&mut self, lengths: RankLengths) {
-        for world in [&mut self.library, &mut self.papers] {
+        for world in [&mut self.library, &mut self.rules] {
             world.samples.lend(lengths.samples);
             world.counts.lend(lengths.counts);
             world.windows.lend(lengths.windows);
@@ -87,36 +87,36 @@ impl<'a> RankBench<'a> {
     /// What is lent now.
     pub fn lent(&self) -> RankLengths {
         RankLengths {
-            samples: self.papers.samples.given,
-            counts: self.papers.counts.given,
-            windows: self.papers.windows.given,
-            out: self.papers.out.given,
+            samples: self.rules.samples.given,
+            counts: self.rules.counts.given,
+            windows: self.rules.windows.given,
+            out: self.rules.out.given,
         }
     }
 
     pub fn set_sample(&mut self, index: usize, sample: u16) {
         *self.library.samples.place(index) = sample;
-        *self.papers.samples.place(index) = sample;
+        *self.rules.samples.place(index) = sample;
     }
 
     pub fn set_count(&mut self, column: usize, level: usize, count: u16) {
         *self.library.counts.place(LEVELS * column + level) = count;
-        *self.papers.counts.place(LEVELS * column + level) = count;
+        *self.rules.counts.place(LEVELS * column + level) = count;
     }
 
     pub fn set_window(&mut self, level: usize, count: u16) {
         *self.library.windows.place(level) = count;
-        *self.papers.windows.place(level) = count;
+        *self.rules.windows.place(level) = count;
     }
 
     /// The sample store as it is lent.
     pub fn samples(&self) -> &[u16] {
-        self.papers.samples.read()
+        self.rules.samples.read()
     }
 
     /// The column counts as they are lent.
     pub fn counts(&self) -> &[u16] {
-        self.papers.counts.read()
+        self.rules.counts.read()
     }
 
     /// The output as the library left it.
@@ -138,20 +138,20 @@ impl<'a> RankBench<'a> {
         if library.refusal != 0 {
             self.untouched("rank start")?;
         }
-        let (stores, _) = self.papers.parts();
-        let papers = ranks::start(b, window, rank, width, stores);
-        same("rank start", &library, &papers)?;
+        let (stores, _) = self.rules.parts();
+        let rules = ranks::start(b, window, rank, width, stores);
+        same("rank start", &library, &rules)?;
         self.equal_after("rank start")?;
-        self.tally.answered("rank start", papers.refusal);
-        Ok(papers)
+        self.tally.answered("rank start", rules.refusal);
+        Ok(rules)
     }
 
     pub fn close(&mut self, scan: &Rank) -> Result<Started<Rank>, String> {
         let library = ffi::rank_close(scan);
-        let papers = ranks::close(scan);
-        same("rank close", &library, &papers)?;
-        self.tally.answered("rank close", papers.refusal);
-        Ok(papers)
+        let rules = ranks::close(scan);
+        same("rank close", &library, &rules)?;
+        self.tally.answered("rank close", rules.refusal);
+        Ok(rules)
     }
 
     pub fn row(&mut self, scan: &Rank, row: &[u16]) -> Result<Answer<Rank>, String> {
@@ -159,14 +159,14 @@ impl<'a> RankBench<'a> {
         let (stores, out) = self.library.parts();
         let library = ffi::rank_row(scan, row, stores, out);
         self.idle("rank row", scan, &library)?;
-        let (stores, out) = self.papers.parts();
-        let papers = ranks::row(scan, row, stores, out);
-        self.agree("rank row", &library, &papers)?;
-        self.note(Moment::new(scan, Arrival::Row(row)), &before, &papers);
-        let taken = papers.kind != REFUSED;
+        let (stores, out) = self.rules.parts();
+        let rules = ranks::row(scan, row, stores, out);
+        self.agree("rank row", &library, &rules)?;
+        self.note(Moment::new(scan, Arrival::Row(row)), &before, &rules);
+        let taken = rules.kind != REFUSED;
         let dead = taken && row.contains(&DEAD);
         self.tally.saw_if("ranked: dead element", dead);
-        Ok(papers)
+        Ok(rules)
     }
 
     pub fn step(&mut self, scan: &Rank) -> Result<Answer<Rank>, String> {
@@ -174,11 +174,11 @@ impl<'a> RankBench<'a> {
         let (stores, out) = self.library.parts();
         let library = ffi::rank_step(scan, stores, out);
         self.idle("rank step", scan, &library)?;
-        let (stores, out) = self.papers.parts();
-        let papers = ranks::step(scan, stores, out);
-        self.agree("rank step", &library, &papers)?;
-        self.note(Moment::new(scan, Arrival::Zeros), &before, &papers);
-        Ok(papers)
+        let (stores, out) = self.rules.parts();
+        let rules = ranks::step(scan, stores, out);
+        self.agree("rank step", &library, &rules)?;
+        self.note(Moment::new(scan, Arrival::Zeros), &before, &rules);
+        Ok(rules)
     }
 
     /// What an arrival met in the stores as they were before it, if it got as far as question 19.
@@ -201,7 +201,7 @@ impl<'a> RankBench<'a> {
             let both = leaving.is_some() && leaving == entering;
             tally.saw_if("ranked: same level leaves and enters", both);
             if let Some(level) = entering {
-                let after = count(self.papers.counts.read(), c, level);
+                let after = count(self.rules.counts.read(), c, level);
                 tally.saw_if("ranked: count at M", most > 1 && after == most);
             }
             if let Some(level) = leaving {
