@@ -9,6 +9,7 @@ import subprocess
 import sys
 import tempfile
 import unittest
+import unittest.mock
 
 TOP = pathlib.Path(__file__).resolve().parent.parent
 sys.path[:0] = [str(TOP / "python"), str(TOP / "scripts")]
@@ -315,6 +316,20 @@ class Header(unittest.TestCase):
         mine = (strip._RECTS, strip._KEPT_ROWS, strip._WIDTH_MOST, strip._FILE_MOST, strip._LEVELS, strip._SPOT)
         kinds = (strip._REFUSED, strip._ROW, strip._WAITING, strip._DONE, strip.DEAD, strip.EMPTY)
         self.assertEqual(said[40:], [" ".join(map(str, mine)), " ".join(map(str, kinds))])
+
+
+class Readme(unittest.TestCase):
+    def test_lines_as_they_stand(self):
+        code = (TOP / "README.md").read_text().split("```python\n")[1].split("```")[0]
+        rows = drawn_rows(random.Random(4), 8, 30, 40)
+        samples = memoryview(flat(rows)).cast("B").cast("H", [30, 40])
+        named = {"samples": samples, "sensor_rows": iter(rows)}
+        with unittest.mock.patch("pathlib.Path.read_bytes", lambda path: (TOP / path).open("rb").read()):
+            exec(code, named)
+        wanted = [p for row in filtered(named["table"], rows, 40) for p in row]
+        self.assertEqual(list(named["pixels"]), wanted)
+        self.assertEqual(list(named["row"]), wanted[-40:])
+        self.assertIsNone(strip.compare(named["table"], named["turned"]))
 
 
 if __name__ == "__main__":

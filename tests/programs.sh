@@ -100,6 +100,10 @@ says "a scan cut off" "scan: cut off in row 0" sh -c "head -c 40 '$work/scan.pgm
 says "no PGM" "scan: not a binary PGM" sh -c "echo P2 1 1 1 | '$strip' '$table'"
 "$list" <tables/a.table >"$work/listed"
 same "the listing of Table A" "$work/listed" crates/listing/stdout
+# the example in docs/FITTING.md: even.table with q1 = 2 and q2 = 1
+{ head -c 4 tables/even.table; printf '\002\001'; tail -c +7 tables/even.table; } | "$list" >"$work/listed"
+sed -n '/^### listing/,/^### /s/^    \([0-9e]\)/\1/p' docs/FITTING.md >"$work/wanted"
+same "the listing in docs/FITTING.md" "$work/listed" "$work/wanted"
 # sixteen rectangles and more bytes: 6 where they begin with a mark, 7 where not; none behind byte 156 is read
 full() { head -c 9 tables/a.table; for k in 1 2 3 4 5 6 7 8 9 10 11 12 13 14 15 16; do printf '\002\000\006\001\001\376\376\000\001'; done; }
 { full; printf '\002\000\006'; head -c 44 /dev/zero; } >"$work/mark.table"
