@@ -46,6 +46,6 @@ header() { printf '\001\000\006'"$1"; }
 } >"$work/said"
 diff examples/screen.expected "$work/said" || { echo "examples/screen.c does not say what examples/screen.expected has"; exit 1; }
 
-awk '/^## /{ on = $0 == "## From C" } /^```/{ code = !code } on && !code && /^    /{ print substr($0, 5) }' README.md | sh >"$work/pasted"
+awk '/^## /{ on = $0 == "## From C" } /^```/{ code = !code } on && !code && /^    /{ print substr($0, 5) }' README.md | MAKEFLAGS=s sh >"$work/pasted"
 diff examples/scan.expected "$work/pasted" || { echo "the README's lines on calling from C give something else"; exit 1; }
 echo "examples: ok"
