@@ -52,9 +52,9 @@ extern "C" {
 
 /* The version of this header. A change of STRIP_VERSION_MAJOR can break a caller's code, one of STRIP_VERSION_MINOR adds to it. */
 #define STRIP_VERSION_MAJOR 1
-#define STRIP_VERSION_MINOR 1
+#define STRIP_VERSION_MINOR 2
 #define STRIP_VERSION_PATCH 0
-#define STRIP_VERSION "1.1.0"
+#define STRIP_VERSION "1.2.0"
 
 /* Limits and sizes. */
 #define STRIP_RECTS 16               /* rectangles of a table, 1 to 16 */

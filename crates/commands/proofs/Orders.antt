@@ -6,9 +6,10 @@ use mathlib.Core.Bool.{true, false}
 use mathlib.Core.List.{List, [], _∷_}
 use Rattle.text.specs.Ascii.{ascii}
 use Rattle.pgm.specs.Grammar.{digit, digits, number}
+use Rattle.words.specs.Words.{same}
 use Rattle.commands.specs.declared.Word.the-variants.{Values, Number, Table}
 use Rattle.commands.specs.declared.Command.the-variants.{Filter, Ranked}
-use Rattle.commands.specs.Commands.{same, plainOf, wordOf, numberedOf, nextOf, endedOf, commandOf}
+use Rattle.commands.specs.Commands.{plainOf, wordOf, numberedOf, nextOf, endedOf, commandOf}
 
 values-word : wordOf (ascii "--values") ≡ Values
 unfolding ascii same wordOf

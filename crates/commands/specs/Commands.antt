@@ -1,23 +1,18 @@
 -- The command line: what each word is, and what they come to.
 -- Assumes nothing.
 use Prim.Native.Nat.{ℕ, suc, min}
-use mathlib.Core.Bool.{Bool, true, false, cond, _&&_}
+use mathlib.Core.Bool.{Bool, true, cond}
 use mathlib.Core.List.{List, [], _∷_}
 use lib.Dec.{eqb}
 use lib.ListN.{length, getD}
 use Rattle.text.specs.Ascii.{ascii}
 use Rattle.pgm.specs.Grammar.{digits, number}
+use Rattle.words.specs.Words.{same}
 use Rattle.commands.specs.declared.Word.{Word}
 use Rattle.commands.specs.declared.Word.the-variants.{Values, Rank, Help as AskHelp, Version as AskVersion, Option, Number, Table}
 use Rattle.commands.specs.declared.Ranking.{Ranking}
 use Rattle.commands.specs.declared.Command.{Command}
 use Rattle.commands.specs.declared.Command.the-variants.{Filter, Ranked, Help, Version, Unknown, NoNumber, Usage}
-
-unfoldable pub same : List ℕ → List ℕ → Bool
-same [] [] = true
-same [] (b ∷ y) = false
-same (a ∷ x) [] = false
-same (a ∷ x) (b ∷ y) = eqb a b && same x y
 
 -- what begins with - is no option; digits are a number, held as 65,536 where it is larger; any other word names a table
 unfoldable pub plainOf : List ℕ → Word

@@ -2,10 +2,10 @@
 //
 //   next   what the command line comes to with one word more
 //   ended  what it comes to when there are no more words
-mod words;
+mod line;
 
-pub use words::ended;
-pub use words::next;
+pub use line::ended;
+pub use line::next;
 
 // A word of the command line.
 pub enum Word {

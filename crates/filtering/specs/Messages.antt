@@ -95,7 +95,7 @@ answerText Help =
     ∷ "  --help, -h     says this"
     ∷ "  --version      says the version"
     ∷ [])
-answerText Version = lines ("stripfilter 1.1.0" ∷ [])
+answerText Version = lines ("stripfilter 1.2.0" ∷ [])
 answerText (Unknown i) = lines ("no such option; stripfilter --help lists them" ∷ [])
 answerText (NoNumber i) = lines ("no number; --rank takes R ROWS COLS" ∷ [])
 answerText Usage =

@@ -123,7 +123,7 @@ place the sample of rank R, from the darkest on, among those under a window of R
   --version      says the version
 ",
         ),
-        Command::Version => put_bytes(out, 0, b"stripfilter 1.1.0\n"),
+        Command::Version => put_bytes(out, 0, b"stripfilter 1.2.0\n"),
         Command::Unknown(_) => put_bytes(
             out,
             0,

@@ -20,7 +20,7 @@ pub struct Loaded {
 }
 
 // A table of these numbers and no rectangle.
-fn bare(b: u8, q1: u8, q2: u8, q3: u8, t: u8, w: u8) -> Table
+pub fn bare(b: u8, q1: u8, q2: u8, q3: u8, t: u8, w: u8) -> Table
     ensures { λ r. ⌜ r ≡ tableOf (noRects b q1 q2 q3 t w) ⌝ }
 {
     let none = Rect {
@@ -43,7 +43,8 @@ fn bare(b: u8, q1: u8, q2: u8, q3: u8, t: u8, w: u8) -> Table
     }
 }
 
-fn refused(number: u32, place: u32) -> Loaded
+// A refusal, with a table of zeros and no rectangle.
+pub fn refused(number: u32, place: u32) -> Loaded
     ensures { λ r. ⌜ r .verdict ≡ Verdict.Refused number place ⌝ }
     ensures { λ r. ⌜ r .table ≡ tableOf (noRects 0 0 0 0 0 0) ⌝ }
 {

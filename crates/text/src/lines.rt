@@ -7,9 +7,9 @@ ghost use Rattle.text.specs.Ascii.{lineLength, afterLine, line as Ascii�
 use crate::putting::put_bytes;
 
 // Where the line ends that begins at this place.
-fn line_end(text: &[u8], at: usize) -> usize
-    requires { ⌜ at ≤ length (now text) ⌝ }
-    ensures { λ r. ⌜ (r ≡ at + lineLength (drop at (now (text .entry)))) × (r ≤ length (now (text .entry))) ⌝ }
+pub fn line_end(text: &[u8], at: usize) -> usize
+    ensures { λ r. ⌜ r ≡ at + lineLength (drop at (now (text .entry))) ⌝ }
+    ensures { λ r. ⌜ (at ≤ length (now (text .entry)) → r ≤ length (now (text .entry))) ⌝ }
 {
     let mut i = at;
     while i < text.len() {
@@ -22,9 +22,9 @@ fn line_end(text: &[u8], at: usize) -> usize
 }
 
 // Where the line after it begins.
-fn next_line(text: &[u8], at: usize) -> usize
-    requires { ⌜ at ≤ length (now text) ⌝ }
-    ensures { λ r. ⌜ (drop r (now (text .entry)) ≡ afterLine (drop at (now (text .entry)))) × (r ≤ length (now (text .entry))) ⌝ }
+pub fn next_line(text: &[u8], at: usize) -> usize
+    ensures { λ r. ⌜ drop r (now (text .entry)) ≡ afterLine (drop at (now (text .entry))) ⌝ }
+    ensures { λ r. ⌜ (at ≤ length (now (text .entry)) → r ≤ length (now (text .entry))) ⌝ }
 {
     let end = line_end(text, at);
     if end < text.len() { end + 1 } else { end }

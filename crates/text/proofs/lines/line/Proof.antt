@@ -32,7 +32,7 @@ loop-again : tie.Need-loop-again Inv-loop μ-loop
 loop-again c =
     let l = c .before .before in
     let e = c .next-line .ensures in
-    (e .1, rw (e .0) (sym (line-step (l .loop .left) _ (omega arith)) ∙ l .loop .inv .1))
+    (e .1 (l .loop .inv .0), rw (e .0) (sym (line-step (l .loop .left) _ (omega arith)) ∙ l .loop .inv .1))
 
 line-end-requires : tie.Need-line-end-requires Inv-loop μ-loop
 line-end-requires c κs = search needs
@@ -41,7 +41,7 @@ returns : tie.Need-returns Inv-loop μ-loop
 returns c =
     let l = c .before .before in
     let e = c .line-end .ensures in
-    line-found _ _ (l .loop .left) _ _ (omega arith) (l .loop .inv .0) (l .loop .inv .1) (e .0) (e .1)
+    line-found _ _ (l .loop .left) _ _ (omega arith) (l .loop .inv .0) (l .loop .inv .1) (e .0) (e .1 (l .loop .inv .0))
 
 pub line-spec : {M : Type 1} → statement M
 line-spec =

@@ -14,13 +14,13 @@ use Rattle.text.proofs.lines.line_end.Statement.{statement}
 use Rattle.text.proofs.lines.line_end.Tie as tie
 
 abbrev Inv-loop : tie.InvT-loop
-Inv-loop text at i₀ i = (i ≤ length text) × (i + lineLength (drop i text) ≡ at + lineLength (drop at text))
+Inv-loop text at i₀ i = (at ≤ length text → i ≤ length text) × (i + lineLength (drop i text) ≡ at + lineLength (drop at text))
 
 abbrev μ-loop : tie.MeasureT-loop
 μ-loop text at i₀ i = length text - i
 
 loop-holds : tie.Need-loop-holds Inv-loop μ-loop
-loop-holds c = (c .pre, refl)
+loop-holds c = ((λ h. h), refl)
 
 shared-slice-read-if1 : tie.Need-shared-slice-read-if1 Inv-loop μ-loop
 shared-slice-read-if1 c = search needs
@@ -30,8 +30,8 @@ returns c =
     let l = c .before .before .before in
     let a = l .before .args in
     let g = line-ends (now (a .text)) (l .loop .i) (omega arith) (eq-eqb _ _ (c .if1 .taken)) in
-    let v = l .loop .inv in
-    (omega arith, omega arith)
+    let v = l .loop .inv .1 in
+    (omega arith, λ h. omega arith)
 
 add-i : tie.Need-add-i Inv-loop μ-loop
 add-i c = search needs
@@ -44,16 +44,16 @@ loop-again c =
     let l = c .before .before .before in
     let a = l .before .args in
     let g = line-on (now (a .text)) (l .loop .i) (omega arith) (ne-eqb _ _ (c .if1 .left)) in
-    let v = l .loop .inv in
-    (omega arith, rw add-one (omega arith))
+    let v = l .loop .inv .1 in
+    ((λ h. omega arith), rw add-one (omega arith))
 
 returns-2 : tie.Need-returns-2 Inv-loop μ-loop
 returns-2 c =
     let l = c .before in
     let a = l .before .args in
     let g = line-none (now (a .text)) (l .loop .i) (omega arith) in
-    let v = l .loop .inv in
-    (omega arith, omega arith)
+    let v = l .loop .inv .1 in
+    (omega arith, λ h. l .loop .inv .0 h)
 
 pub line-end-spec : {M : Type 1} → statement M
 line-end-spec =

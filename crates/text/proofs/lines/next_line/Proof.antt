@@ -17,7 +17,7 @@ returns : tie.Need-returns
 returns c =
     let s = c .before in
     let e = s .line-end .ensures in
-    (after-feed _ _ _ (e .0), omega arith)
+    (after-feed _ _ _ (e .0), λ h. omega arith)
 
 returns-2 : tie.Need-returns-2
 returns-2 c =

@@ -1,0 +1,5 @@
+pub mod Signs
+pub mod Fitting
+pub mod Looks
+pub mod Exact
+pub mod Weights
