@@ -1,0 +1,5 @@
+pub mod Comparing
+pub mod Stored
+pub mod Fronts
+pub mod Thirds
+pub mod Theorems

@@ -1,0 +1,5 @@
+pub mod Bounds
+pub mod Ceilings
+pub mod Sizes
+pub mod Low
+pub mod Theorems
