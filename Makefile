@@ -6,10 +6,10 @@
 #:
 #: To try it
 #:   make test       the gate: every crate proved from nothing, every must-fail edit refused, every program run, and all of the next six;
-#:                   40 to 60 minutes on two cores
+#:                   40 to 70 minutes on two cores
 #:   make examples   the header compiled as C and C++, the C examples run
 #:   make python     the Python module beside a filter in plain Python
-#:   make outside    the library, through its C interface, beside a filter written separately from the rules
+#:   make outside    the library, through its C interface, and the fitter's programs beside what was written separately from the rules
 #:   make programs   the programs as a user meets them: options, faults, input in pieces, beside a filter in Python
 #:   make installed  installs into a temporary folder, and builds an example by pkg-config
 #:   make stack      the stack that each call takes, beside what the header states
@@ -26,7 +26,7 @@
 PREFIX = /usr/local
 LIBDIR = $(PREFIX)/lib
 DESTDIR =
-PROGRAMS = stripfilter sametable listing
+PROGRAMS = stripfilter maketable showtable drops sametable listing
 VERSION := $(shell sed -n 's/^\#define STRIP_VERSION "\(.*\)"/\1/p' include/strip.h)
 SONAME = libstrip.so.$(firstword $(subst ., ,$(VERSION)))
 
@@ -99,7 +99,7 @@ python: lib
 	@cd python && python3 -m unittest --quiet
 
 # `make outside STRIP_LIB_DIR=folder` takes another library.
-outside: lib
+outside: lib proved-programs
 	@scripts/need.sh cargo
 	@$(if $(STRIP_LIB_DIR),STRIP_LIB_DIR=$(abspath $(STRIP_LIB_DIR)) )cargo run --release --offline --quiet --manifest-path tests/Cargo.toml
 

@@ -2,6 +2,7 @@
 """What stands in several places and has one source: says where a place differs, or writes it anew with --write.
 
     sentences of the refusals   crates/refusals/specs/Sentences.antt  ->  include/strip.h, python/strip.py, docs/RULES.md
+    a text's own faults         crates/faults/specs/Faults.antt       ->  docs/RULES.md
     version                     include/strip.h                       ->  stripfilter, CHANGELOG.md
     a whole scan in C           examples/scan.c                       ->  README.md
     line counts                 the files themselves                  ->  docs/AUDIT.md
@@ -55,6 +56,13 @@ def sentences():
             fault(name, f"refusal {max(words)} has no sentence")
 
 
+def own_sentences():
+    text = read("crates/faults/specs/Faults.antt")
+    found = re.findall(r'^\s+(?:∷ )?"([^"]*)"$', text, re.M)
+    body = "".join(f"- {number}: {words}\n" for number, words in enumerate(found, 100) if words)
+    block("docs/RULES.md", "The words for the text's own faults:\n\n", "\nA file is shown", body)
+
+
 def version():
     header = read("include/strip.h")
     parts = [re.search(rf"#define STRIP_VERSION_{p} (\d+)", header)[1] for p in ("MAJOR", "MINOR", "PATCH")]
@@ -88,6 +96,7 @@ def line_counts():
 
 
 sentences()
+own_sentences()
 version()
 scan_example()
 line_counts()

@@ -13,7 +13,7 @@ major=${version%%.*}
 goal install
 root=$work/opt/strip
 (cd "$root" && find . ! -type d | sort) >"$work/there"
-printf './%s\n' bin/listing bin/sametable bin/stripfilter include/strip.h lib/libstrip.a lib/libstrip.so "lib/libstrip.so.$major" "lib/libstrip.so.$version" \
+printf './%s\n' bin/drops bin/listing bin/maketable bin/sametable bin/showtable bin/stripfilter include/strip.h lib/libstrip.a lib/libstrip.so "lib/libstrip.so.$major" "lib/libstrip.so.$version" \
     lib/pkgconfig/strip.pc | sort | diff - "$work/there" || fail "these files are not those that are meant"
 
 sed -n 's/^[a-z].* \**\(strip_[a-z_]*\)(.*);$/\1/p' include/strip.h | sort >"$work/declared"
@@ -38,6 +38,8 @@ gcc -std=c11 -Wall -Wextra -Werror -I"$root/include" examples/scan.c "$root/lib/
 "$root/bin/listing" <tables/a.table | diff crates/listing/stdout - || fail "the installed listing"
 [ "$("$root/bin/stripfilter" --version)" = "stripfilter $version" ] || fail "the installed stripfilter"
 [ "$("$root/bin/sametable" tables/a.table tables/a.table)" = same ] || fail "the installed sametable"
+"$root/bin/showtable" tables/a.table | "$root/bin/maketable" | cmp -s - tables/a.table || fail "the installed showtable and maketable"
+"$root/bin/drops" tables/a.table 0 | grep -q '^0 0 0 10 12 ' || fail "the installed drops"
 
 goal uninstall
 [ -z "$(find "$root" ! -type d)" ] || fail "uninstalling leaves $(find "$root" ! -type d)"

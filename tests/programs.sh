@@ -1,13 +1,18 @@
 #!/bin/sh
 # The programs as a user meets them: what no contract can say is tried here. stripfilter beside scripts/filter.py on two-byte samples, by ranked
 # windows and as values, its input in odd pieces and two scans on one stream, its options and faults; listing on what cannot be read; sametable
-# on shapes cut in several ways.
+# on shapes cut in several ways; tables to text and back, texts with each fault, choices of drops, and what docs/FITTING.md says of them.
 set -u
 cd "$(dirname "$0")/.." || exit 2
 strip=$PWD/target/bin/stripfilter
 list=$PWD/target/bin/listing
 compare=$PWD/target/bin/sametable
-[ -x "$strip" ] && [ -x "$list" ] && [ -x "$compare" ] || { echo "programs: not built; run 'rt check listing stripfilter sametable' first"; exit 2; }
+make=$PWD/target/bin/maketable
+show=$PWD/target/bin/showtable
+drops=$PWD/target/bin/drops
+for program in "$strip" "$list" "$compare" "$make" "$show" "$drops"; do
+    [ -x "$program" ] || { echo "programs: $program is not built; run 'make programs'"; exit 2; }
+done
 work=$(mktemp -d)
 trap 'rm -rf "$work"' EXIT
 table=$PWD/tables/even.table
@@ -100,10 +105,6 @@ says "a scan cut off" "scan: cut off in row 0" sh -c "head -c 40 '$work/scan.pgm
 says "no PGM" "scan: not a binary PGM" sh -c "echo P2 1 1 1 | '$strip' '$table'"
 "$list" <tables/a.table >"$work/listed"
 same "the listing of Table A" "$work/listed" crates/listing/stdout
-# the example in docs/FITTING.md: even.table with q1 = 2 and q2 = 1
-{ head -c 4 tables/even.table; printf '\002\001'; tail -c +7 tables/even.table; } | "$list" >"$work/listed"
-sed -n '/^### listing/,/^### /s/^    \([0-9e]\)/\1/p' docs/FITTING.md >"$work/wanted"
-same "the listing in docs/FITTING.md" "$work/listed" "$work/wanted"
 # sixteen rectangles and more bytes: 6 where they begin with a mark, 7 where not; none behind byte 156 is read
 full() { head -c 9 tables/a.table; for k in 1 2 3 4 5 6 7 8 9 10 11 12 13 14 15 16; do printf '\002\000\006\001\001\376\376\000\001'; done; }
 { full; printf '\002\000\006'; head -c 44 /dev/zero; } >"$work/mark.table"
@@ -144,6 +145,98 @@ says "one table" "usage: sametable TABLE TABLE" "$compare" "$work/square"
 says "three tables" "usage: sametable TABLE TABLE" "$compare" "$work/square" "$work/square" "$work/square"
 says "a file that is not there" "$work/none: " "$compare" "$work/square" "$work/none"
 [ "$("$compare" "$work/square" "$work/none" 2>/dev/null)" = "" ] || fail "sametable answers without a second file"
+
+# every table there and back, by standard input and by name
+for name in tables/*.table; do
+    "$show" "$name" >"$work/text" && "$make" "$work/text" >"$work/made"
+    same "$name to text and back" "$work/made" "$name"
+    "$show" <"$name" | "$make" >"$work/made"
+    same "$name to text and back through a pipe" "$work/made" "$name"
+done
+# a text in another order, with comments, tabs and carriage returns, and no line feed at its end
+printf '# Table A\r\n\tword 016 # bits\r\n\r\nrectangle  lead 1 1 trail -2 -2 weight 1#\nshift 2\ndrops 0 0 0\nrectangle lead 0 -0 trail -1 -1 weight -9\n  bits 8' >"$work/text"
+"$make" <"$work/text" >"$work/made"
+same "a text in another order" "$work/made" tables/a.table
+# each fault once, at its line: a line of Table A's text exchanged
+"$show" tables/a.table >"$work/a.txt"
+# faulty LINE TEXT WANTED: the text with that line exchanged is refused with this message, and nothing is written
+faulty() {
+    awk -v n="$1" -v line="$2" 'NR == n { $0 = line } { print }' "$work/a.txt" >"$work/text"
+    "$make" "$work/text" >"$work/made" 2>"$work/said"
+    [ "$(cat "$work/said")" = "$work/text: $3" ] || fail "maketable on '$2': $(cat "$work/said")"
+    [ ! -s "$work/made" ] || fail "maketable writes beside '$3'"
+}
+faulty 1 "bit 8" "line 1: the line begins with none of bits, drops, shift, word, rectangle"
+faulty 6 "ramp lead 0 0 trail -1 -1 weight -9" "line 6: the line begins with none of bits, drops, shift, word, rectangle"
+faulty 1 "bits" "line 1: the line is not of the form: bits B"
+faulty 1 "bits -8" "line 1: the line is not of the form: bits B"
+faulty 2 "drops 0 0 0 0" "line 2: the line is not of the form: drops Q1 Q2 Q3"
+faulty 3 "shift 2x" "line 3: the line is not of the form: shift T"
+faulty 4 "word w 16" "line 4: the line is not of the form: word W"
+faulty 5 "rectangle lead 1 1 trial -2 -2 weight 1" "line 5: the line is not of the form: rectangle lead ROW COLUMN trail ROW COLUMN weight WEIGHT"
+faulty 5 "rectangle lead 1 1 trail -2 -2 weight +1" "line 5: the line is not of the form: rectangle lead ROW COLUMN trail ROW COLUMN weight WEIGHT"
+faulty 6 "rectangle lead 0 0 trail -1 -1 weight 32768" "line 6: the weight is not from -32768 to 32767"
+faulty 6 "rectangle lead 0 0 trail -1 -1 weight -32769" "line 6: the weight is not from -32768 to 32767"
+faulty 6 "word 16" "line 6: an earlier line has said this"
+faulty 1 "" "there is no line that begins with bits"
+faulty 2 "" "there is no line that begins with drops"
+faulty 3 "# shift 2" "there is no line that begins with shift"
+faulty 4 "#word 16" "there is no line that begins with word"
+faulty 1 "bits 13" "line 1: refused, 3: b is not from 1 to 12"
+faulty 1 "bits 264" "line 1: refused, 3: b is not from 1 to 12"
+faulty 2 "drops 8 0 0" "line 2: refused, 4: q1 is not below b, or q2 or q3 is above 8"
+faulty 3 "shift 32" "line 3: refused, 5: t is above 31, or w is not from 8 to 32"
+faulty 4 "word 7" "line 4: refused, 5: t is above 31, or w is not from 8 to 32"
+faulty 5 "rectangle lead 16 1 trail -2 -2 weight 1" "line 5: refused, 8: a lead is not from -15 to 15, a trail not from -16 to 14, or a trail is not below its lead"
+faulty 6 "rectangle lead 0 99999999999999999999 trail -1 -1 weight -9" "line 6: refused, 8: a lead is not from -15 to 15, a trail not from -16 to 14, or a trail is not below its lead"
+faulty 5 "rectangle lead 1 1 trail -2 -2 weight 9999" "refused, 10: the largest or the smallest pixel does not fit w bits"
+head -n 4 "$work/a.txt" >"$work/text"
+says "a text without rectangles" "standard input: refused, 9: there is no rectangle" sh -c "'$make' <'$work/text'"
+for k in 1 2 3 4 5 6 7 8 9 10 11 12 13 14 15 16 17; do echo "rectangle lead 1 1 trail -2 -2 weight 1"; done >>"$work/text"
+says "seventeen rectangles" "standard input: line 21: refused, 6: there are more than 16 rectangles" sh -c "'$make' <'$work/text'"
+{ cat "$work/a.txt"; head -c 65535 /dev/zero | tr '\0' '#'; } | head -c 65535 >"$work/text"
+"$make" "$work/text" >"$work/made"
+same "a text of 65,535 bytes" "$work/made" tables/a.table
+{ cat "$work/text"; echo; } >"$work/long"
+says "a text of 65,536 bytes" "$work/long: the text is longer than 65535 bytes" "$make" "$work/long"
+says "two texts" "usage: maketable [TEXT]" "$make" "$work/text" "$work/text"
+says "a text that is not there" "$work/none: " "$make" "$work/none"
+# a table that question 10 alone refuses is shown with its refusal; any other refused file is not shown
+{ head -c 8 tables/a.table; printf '\011'; tail -c +10 tables/a.table; } >"$work/nine.table"
+"$show" "$work/nine.table" >"$work/text"
+{ sed 's/^word 16$/word 9/' "$work/a.txt"; echo "# refused, 10: the largest or the smallest pixel does not fit w bits"; } >"$work/wanted"
+same "a table refused with 10 shown" "$work/text" "$work/wanted"
+says "the same made again" "$work/text: refused, 10: the largest or the smallest pixel does not fit w bits" "$make" "$work/text"
+says "a refused file" "$work/mark.table: refused, 6: there are more than 16 rectangles" "$show" "$work/mark.table"
+[ -z "$("$show" "$work/mark.table" 2>/dev/null)" ] || fail "showtable writes beside a refusal"
+says "two tables" "usage: showtable [TABLE]" "$show" tables/a.table tables/a.table
+says "a table that is not there" "$work/none: " "$show" "$work/none"
+# choices of drops
+says "drops of nothing" "usage: drops TABLE" "$drops"
+says "drops with too many words" "usage: drops TABLE" "$drops" tables/a.table 1 2 3
+says "drops of a refused file" "$work/mark.table: refused, 6: there are more than 16 rectangles" "$drops" "$work/mark.table"
+says "drops of no file" "$work/none: " "$drops" "$work/none"
+says "a bound that is no number" "drops: MOST is no number: 1x" "$drops" tables/a.table 1x
+says "a width of 1025" "drops: refused, 12: the width is not from 1 to 1024" "$drops" tables/a.table 1 1025
+"$drops" tables/even.table 100 >"$work/listed"
+sed -n '/^### drops/,/^### /s/^    \([q0-9]\)/\1/p' docs/FITTING.md >"$work/wanted"
+same "the choices in docs/FITTING.md" "$work/listed" "$work/wanted"
+# how far two choices are off on the strip, as docs/FITTING.md says
+off() { "$show" tables/even.table | sed "s/^drops .*/drops $1/" | "$make" >"$work/q.table"; "$strip" --values "$work/q.table" <scans/strip.pgm | tr ' ' '\n'; }
+off "0 0 0" >"$work/full"
+for choice in "1 0 0" "2 0 0"; do
+    range=$(off "$choice" | paste "$work/full" - | awk 'NF == 2 { d = $1 - $2; if (d < low) low = d; if (high < d) high = d } END { print low, "to", high }')
+    grep -q "\`$choice\`.* from $range" docs/FITTING.md || fail "docs/FITTING.md on $choice: it is off from $range"
+done
+# the five commands of docs/FITTING.md, in a folder that has tables/ and scans/
+sed -n '/^## From a text/,/^## /s/^    \$ //p' docs/FITTING.md >"$work/commands"
+[ "$(wc -l <"$work/commands")" -eq 5 ] || fail "docs/FITTING.md has not five commands"
+mkdir "$work/desk" && ln -s "$PWD/tables" "$PWD/scans" "$work/desk"
+(PATH=$PWD/target/bin:$PATH && cd "$work/desk" && sh -e ../commands) >"$work/said" 2>&1 || fail "the five commands of docs/FITTING.md"
+sed -n '/^## From a text/,/^## /s/^    \([0-9e]\)/\1/p' docs/FITTING.md >"$work/wanted"
+same "what the five commands print" "$work/said" "$work/wanted"
+python3 scripts/filter.py "$work/desk/mine.table" <scans/strip.pgm >"$work/wanted"
+same "what the five commands filter" "$work/desk/filtered.pgm" "$work/wanted"
 
 [ $failed -eq 0 ] && echo "programs: ok"
 exit $failed

@@ -1,8 +1,9 @@
-//! Outside tests: the library through its C interface beside a filter written separately from the rules.
+//! Outside tests: the library through its C interface, and the fitter's programs, beside what was written separately from the rules.
 //!
 //! `cargo run --release` runs every case; `--seed S` takes another seed, `--case N` runs one case again.
 
 mod cases;
+mod choices;
 mod engine;
 mod ffi;
 mod gen;
@@ -12,6 +13,7 @@ mod rng;
 mod same;
 mod table;
 mod tally;
+mod text;
 mod world;
 
 use std::env;

@@ -163,8 +163,8 @@ fn rect_of(f: [u8; 6]) -> Rect {
     }
 }
 
-/// The table that a file says, or the number of the first no among questions 1 to 10.
-pub fn load(bytes: &[u8]) -> Result<Table, u32> {
+/// The table that a file says, or the number of the first no among questions 1 to 9.
+pub fn parse(bytes: &[u8]) -> Result<Table, u32> {
     if !marked(bytes, 1) {
         return Err(1);
     }
@@ -199,10 +199,17 @@ pub fn load(bytes: &[u8]) -> Result<Table, u32> {
     if table.count == 0 {
         return Err(9);
     }
-    if !extremes_good(&table) {
-        return Err(10);
-    }
     Ok(table)
+}
+
+/// The same with question 10.
+pub fn load(bytes: &[u8]) -> Result<Table, u32> {
+    let table = parse(bytes)?;
+    if extremes_good(&table) {
+        Ok(table)
+    } else {
+        Err(10)
+    }
 }
 
 /// What the loading call answers. A refused file hands out a table of zeros (docs/RULES.md, section 5).

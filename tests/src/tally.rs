@@ -7,7 +7,7 @@ use std::fmt::{Debug, Display};
 pub type Outcome = Result<(), String>;
 
 /// The numbers that each call can answer, 0 being acceptance; every one has to be met.
-const NUMBERS: [(&str, &[u32]); 14] = [
+const NUMBERS: [(&str, &[u32]); 16] = [
     ("check", &[0, 1, 2, 3, 4, 5, 6, 7, 8, 9, 10]),
     ("load", &[0, 1, 2, 3, 4, 5, 6, 7, 8, 9, 10]),
     ("write", &[0, 11, 13]),
@@ -22,6 +22,14 @@ const NUMBERS: [(&str, &[u32]); 14] = [
     ("rank row", &[0, 14, 15, 16, 17, 13, 18, 19]),
     ("rank close", &[0, 14, 15]),
     ("rank step", &[0, 14, 15, 13, 19]),
+    ("showtable", &[1, 2, 3, 4, 5, 6, 7, 8, 9, 10]),
+    (
+        "maketable",
+        &[
+            0, 3, 4, 5, 6, 8, 9, 10, 101, 102, 103, 104, 105, 106, 107, 108, 109, 110, 111, 112,
+            113,
+        ],
+    ),
 ];
 
 /// The last refusal that the rules have.
@@ -152,6 +160,12 @@ const SIGHTS: &[&str] = &[
     "ranked: 13 while waiting",
     "ranked: done",
     "ranked: done with short stores",
+    "desk: there and back",
+    "desk: header after rectangles",
+    "desk: drops within a bound",
+    "desk: drops at a width",
+    "desk: ten choices or more",
+    "desk: one choice",
 ];
 
 #[derive(Default)]

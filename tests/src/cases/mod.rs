@@ -2,6 +2,7 @@
 
 mod altered;
 mod bursts;
+mod desk;
 mod files;
 mod long;
 mod peaks;
@@ -33,7 +34,7 @@ const fn kind(
 }
 
 /// Cases are numbered through in this order.
-pub const KINDS: [Kind; 25] = [
+pub const KINDS: [Kind; 29] = [
     kind("strips of the rules", strips::COUNT, strips::case),
     kind("files at the limits", 60_000, files::limits),
     kind("files at question 10", 10_000, files::question_10),
@@ -59,4 +60,8 @@ pub const KINDS: [Kind; 25] = [
     kind("ranked scans", 20_000, ranks::case),
     kind("ranked, altered stores", 10_000, ranks::altered::case),
     kind("ranked states", 8_000, ranks::states::case),
+    kind("tables to text and back", 10_000, desk::there_and_back),
+    kind("refused files shown", 2_000, desk::refused),
+    kind("texts with faults and without", 6_000, desk::texts),
+    kind("choices of drops", 600, desk::drops),
 ];
