@@ -51,6 +51,13 @@ pub fn number(w: &[u8]) -> Word
     Word::Number(n)
 }
 
+// What stands for no MOST: every choice is within it.
+pub fn no_most() -> u64
+    ensures { λ n. ⌜ n ≡ numberMost ⌝ }
+{
+    1000000000000000000
+}
+
 // A word that is no number, and what it stands for.
 pub fn put_no_number(out: &mut [u8], what: &[u8], word: &[u8]) -> usize
     requires { ⌜ length (now what) + length (now word) + 32 ≤ length (now out) ⌝ }

@@ -97,7 +97,7 @@ fn main() {
         io::write_all(STDERR_FILENO, b"usage: drops TABLE [MOST [WIDTH]]\n");
         return;
     }
-    let most = number_word(2, b"MOST", 1000000000000000000);
+    let most = number_word(2, b"MOST", choicetext::no_most());
     if most.failed {
         return;
     }
