@@ -31,7 +31,7 @@ pub fn biased_long(z: i32) -> u64
 }
 
 // A signed number as above - below, of which one is 0.
-#[derive(Drop)]
+#[derive(Clone, Copy)]
 pub struct SignParts {
     pub above: u32,
     pub below: u32,

@@ -11,7 +11,7 @@ use scan::Scan;
 
 // What a burst comes to: the verdict, a refusal being its own or that of the row where it stopped; how many rows were
 // taken, how many filtered rows came out, and the scan after them.
-#[derive(Drop)]
+#[derive(Clone, Copy)]
 pub struct Burst {
     pub verdict: Verdict,
     pub taken: usize,

@@ -6,7 +6,7 @@ ghost use Rattle.text.specs.Text.{Put};
 use crate::cells::put_bytes;
 
 // What a word is: a number, 10^18 where it is larger, or no number.
-#[derive(Drop)]
+#[derive(Clone, Copy)]
 pub enum Word {
     Number(u64),
     Other,

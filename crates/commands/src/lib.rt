@@ -7,7 +7,7 @@ mod line;
 pub use line::{ended, next};
 
 // A word of the command line.
-#[derive(Drop)]
+#[derive(Clone, Copy)]
 pub enum Word {
     Values,
     Rank,
@@ -22,7 +22,7 @@ pub enum Word {
 }
 
 // What the words of the command line come to.
-#[derive(Drop)]
+#[derive(Clone, Copy)]
 pub enum Command {
     // filter by the table that word `1` names, 0 while there is none; the first says whether values are asked for
     Filter(bool, usize),
@@ -38,7 +38,7 @@ pub enum Command {
 }
 
 // The numbers after --rank: how many of the three were given, R, and the rows and columns of the window.
-#[derive(Drop)]
+#[derive(Clone, Copy)]
 pub struct Ranking {
     pub given: u32,
     pub rank: u32,

@@ -6,14 +6,14 @@ ghost use Rattle.cstructs.specs.Answers.{refusal_c, head_c};
 use layout::{Answer, Closing, Verdict};
 
 // The number and the place of a refusal, 0 and 0 where there is none.
-#[derive(Drop)]
+#[derive(Clone, Copy)]
 pub struct Refusal {
     pub number: u32,
     pub place: u32,
 }
 
 // The kind of an answer, 0 refused, 1 row, 2 waiting, 3 done; the number of the question or of the row, and the place.
-#[derive(Drop)]
+#[derive(Clone, Copy)]
 pub struct Head {
     pub kind: u32,
     pub number: u32,

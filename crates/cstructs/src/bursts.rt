@@ -9,7 +9,7 @@ use scan::Scan;
 
 // strip_burst
 #[repr(C)]
-#[derive(Drop)]
+#[derive(Clone, Copy)]
 pub struct BurstAnswer {
     pub refusal: u32,
     pub place: u32,

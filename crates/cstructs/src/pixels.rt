@@ -7,7 +7,7 @@ use pixel::Found;
 
 // strip_pixel_answer
 #[repr(C)]
-#[derive(Drop)]
+#[derive(Clone, Copy)]
 pub struct PixelAnswer {
     pub refusal: u32,
     pub place: u32,

@@ -8,7 +8,7 @@ use rank::{Moved, RankScan, Started, Stepped};
 
 // strip_rank_started
 #[repr(C)]
-#[derive(Drop)]
+#[derive(Clone, Copy)]
 pub struct RankStarted {
     pub refusal: u32,
     pub place: u32,
@@ -17,7 +17,7 @@ pub struct RankStarted {
 
 // strip_rank_answer: kind 0 refused, 1 row, 2 waiting, 3 done
 #[repr(C)]
-#[derive(Drop)]
+#[derive(Clone, Copy)]
 pub struct RankAnswer {
     pub kind: u32,
     pub number: u32,

@@ -7,7 +7,7 @@ use same::Sameness;
 
 // strip_same_answer
 #[repr(C)]
-#[derive(Drop)]
+#[derive(Clone, Copy)]
 pub struct SameAnswer {
     pub refusal: u32,
     pub place: u32,

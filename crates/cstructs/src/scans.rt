@@ -8,7 +8,7 @@ use scan::{Moved, Scan, Started, Stepped};
 
 // strip_started
 #[repr(C)]
-#[derive(Drop)]
+#[derive(Clone, Copy)]
 pub struct ScanStarted {
     pub refusal: u32,
     pub place: u32,
@@ -17,7 +17,7 @@ pub struct ScanStarted {
 
 // strip_answer: kind 0 refused, 1 row, 2 waiting, 3 done
 #[repr(C)]
-#[derive(Drop)]
+#[derive(Clone, Copy)]
 pub struct ScanAnswer {
     pub kind: u32,
     pub number: u32,

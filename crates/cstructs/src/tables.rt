@@ -11,7 +11,7 @@ use table::{Loaded, Written};
 
 // strip_loaded
 #[repr(C)]
-#[derive(Drop)]
+#[derive(Clone, Copy)]
 pub struct TableLoaded {
     pub refusal: u32,
     pub place: u32,
@@ -20,7 +20,7 @@ pub struct TableLoaded {
 
 // strip_written
 #[repr(C)]
-#[derive(Drop)]
+#[derive(Clone, Copy)]
 pub struct TableWritten {
     pub refusal: u32,
     pub place: u32,

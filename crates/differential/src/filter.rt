@@ -7,7 +7,7 @@ use layout::{Rect, Table};
 use std::num::{wrapping_add_usize, wrapping_sub_usize};
 
 // A pixel's place: L, H, its row and column; and the drops.
-#[derive(Drop)]
+#[derive(Clone, Copy)]
 pub struct View {
     pub width: usize,
     pub height: usize,

@@ -10,7 +10,7 @@ use rank::{RankScan, Window};
 use std::num::{wrapping_add_usize, wrapping_sub_usize};
 
 // What is run: b, the window and R, L and H, and the delay.
-#[derive(Drop)]
+#[derive(Clone, Copy)]
 pub struct RankTask {
     pub b: u8,
     pub window: Window,
@@ -23,7 +23,7 @@ pub struct RankTask {
 // ---- what is drawn
 
 // A lead from -15 to 15, and a trail below it, from -16 on; how far apart they are, and the lead where it is positive.
-#[derive(Drop)]
+#[derive(Clone, Copy)]
 struct Axis {
     lead: i8,
     trail: i8,
@@ -87,7 +87,7 @@ pub fn behind(w: Window) -> bool {
 // ---- the ranked filter written apart
 
 // A pixel's place: L, H, its row and column.
-#[derive(Drop)]
+#[derive(Clone, Copy)]
 struct Spot {
     width: usize,
     height: usize,
@@ -205,7 +205,7 @@ fn judged(
 }
 
 // An answer as a number, and the scan after it.
-#[derive(Drop)]
+#[derive(Clone, Copy)]
 struct RankAnswered {
     said: usize,
     scan: RankScan,

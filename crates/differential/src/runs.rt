@@ -9,7 +9,7 @@ use layout::{Answer, Closing, Table};
 use scan::Scan;
 
 // What is run: the table, L and H, and the delay as the filter beside the engine finds it.
-#[derive(Drop)]
+#[derive(Clone, Copy)]
 pub struct Task {
     pub table: Table,
     pub width: usize,
@@ -18,7 +18,7 @@ pub struct Task {
 }
 
 // An answer as a number, and the scan after it.
-#[derive(Drop)]
+#[derive(Clone, Copy)]
 struct Answered {
     said: usize,
     scan: Scan,

@@ -9,7 +9,7 @@ use libc::STDERR_FILENO;
 use streams::refuse;
 
 // A number of the command line; or that there is a fault, which was said.
-#[derive(Drop)]
+#[derive(Clone, Copy)]
 struct Setting {
     failed: bool,
     value: u64,

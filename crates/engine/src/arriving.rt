@@ -14,7 +14,7 @@ use ring::keep;
 
 // What is known of a table's values on any stores whose sums pass question 19: whether every value has 32 bits, and whether every pixel
 // surely fits its word.
-#[derive(Drop)]
+#[derive(Clone, Copy)]
 struct Spans {
     narrow: bool,
     sure: bool,

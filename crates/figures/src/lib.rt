@@ -16,7 +16,7 @@ use words::word_bits;
 
 // The figures of a table at a width: whether both are accepted; the widest column word and the widest window word, formulas (6) and (7);
 // the bits of all sums that are kept; and that the full pixel less the cut pixel lies between -below and above.
-#[derive(Drop)]
+#[derive(Clone, Copy)]
 pub struct Figures {
     pub accepted: bool,
     pub column: u32,

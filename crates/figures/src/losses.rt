@@ -13,7 +13,7 @@ use layout::{Rect, Table};
 use limits::Figure;
 
 // Loss figures times weights: under negative weights and under positive ones.
-#[derive(Drop)]
+#[derive(Clone, Copy)]
 pub struct Losses {
     pub below: u64,
     pub above: u64,

@@ -5,7 +5,7 @@ ghost use Rattle.figures.specs.Measured.{widest_column, widest_window, sums_bits
 use layout::{Table, column_word, window_word};
 
 // The widest words of a table, and the bits of all its sums.
-#[derive(Drop)]
+#[derive(Clone, Copy)]
 pub struct Words {
     pub column: u32,
     pub window: u32,

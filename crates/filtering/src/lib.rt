@@ -18,14 +18,14 @@ pub use saying::{put_answer, put_fault};
 pub use window::centred;
 
 // The edges of a window along rows or columns.
-#[derive(Drop)]
+#[derive(Clone, Copy)]
 pub struct Edges {
     pub lead: i8,
     pub trail: i8,
 }
 
 // A scan that is taken: width, height and maxval of its header, and the bytes of a row.
-#[derive(Drop)]
+#[derive(Clone, Copy)]
 pub struct Job {
     pub width: u32,
     pub height: u32,
@@ -34,7 +34,7 @@ pub struct Job {
 }
 
 // What is wrong with the table file or with the scan.
-#[derive(Drop)]
+#[derive(Clone, Copy)]
 pub enum Fault {
     None,
     // the table file: no bytes, or refused with this number
@@ -60,14 +60,14 @@ pub enum Fault {
 }
 
 // A scan that is taken, or what is wrong with it.
-#[derive(Drop)]
+#[derive(Clone, Copy)]
 pub enum Judged {
     Accepted(Job),
     Faulty(Fault),
 }
 
 // A line on standard error: which one, the numbers in it, and the refusal whose words follow it, 0 for none.
-#[derive(Drop)]
+#[derive(Clone, Copy)]
 pub struct Message {
     pub line: u32,
     pub x: u64,

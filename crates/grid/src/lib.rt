@@ -12,7 +12,7 @@ pub use sums::grid_sums;
 pub use weights::entry;
 
 // Two sums: over what is positive, and over what is negative.
-#[derive(Drop)]
+#[derive(Clone, Copy)]
 pub struct PartSums {
     pub high: u64,
     pub low: u64,

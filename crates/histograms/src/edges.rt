@@ -8,7 +8,7 @@ use arith::biased_byte;
 use ring::row_at;
 
 // The row that an edge reaches, and how often it counts: once, or not at all where it is below 0 or no row that was given.
-#[derive(Drop)]
+#[derive(Clone, Copy)]
 pub struct Edge {
     pub times: u16,
     pub row: usize,

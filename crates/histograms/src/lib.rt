@@ -10,7 +10,7 @@ use layout::Rect;
 
 // What arrives, beside the row: the window, the bits of a sample, the rank, the columns, the arrival's number, and how many rows are
 // given, this one included.
-#[derive(Drop)]
+#[derive(Clone, Copy)]
 pub struct Arrival {
     pub rect: Rect,
     pub b: u8,

@@ -12,7 +12,7 @@ use levels::{find, slide};
 
 // A window on a row: how many columns its lead is ahead of the pixel, or behind it, and how many columns it covers; the columns of
 // the row, the levels that are counted, and the rank.
-#[derive(Drop)]
+#[derive(Clone, Copy)]
 pub struct Span {
     pub ahead: usize,
     pub behind: usize,
@@ -86,7 +86,7 @@ fn first_window<'a>(window: &mut [u16], counts: &'a [u16], zeros: &'a [u16], s: 
 
 // Where the columns of some pixels stand: in the store of counts from place `at` on, one every `step` places, or outside the row, where zeros
 // are read.
-#[derive(Drop)]
+#[derive(Clone, Copy)]
 pub struct Lane {
     pub inside: bool,
     pub at: usize,
@@ -137,7 +137,7 @@ fn lane_counts<'a>(counts: &'a [u16], zeros: &'a [u16], l: Lane) -> &'a [u16]
 }
 
 // Pixels from one on, so many, with the lanes of the columns that enter and of those that leave.
-#[derive(Drop)]
+#[derive(Clone, Copy)]
 pub struct Run {
     pub from: usize,
     pub count: usize,

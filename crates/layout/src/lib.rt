@@ -14,7 +14,7 @@ pub use measure::{column_word, columns, delay, rows, window_word};
 // A rectangle: rows r + trailrow + 1 to r + leadrow and columns c + trailcol + 1 to c + leadcol of a
 // pixel at row r, column c, with a signed weight.
 #[repr(C)]
-#[derive(Drop)]
+#[derive(Clone, Copy)]
 pub struct Rect {
     pub leadrow: i8,
     pub leadcol: i8,
@@ -26,7 +26,7 @@ pub struct Rect {
 // A table: b bits a sample, drops q1, q2 and q3, shift t, pixel word of w bits, and the rectangles in
 // the first `count` slots. Slots from `count` on are no part of the table.
 #[repr(C)]
-#[derive(Drop)]
+#[derive(Clone, Copy)]
 pub struct Table {
     pub b: u8,
     pub q1: u8,
@@ -39,7 +39,7 @@ pub struct Table {
 }
 
 // Whether a call accepted what it was given, or the number and the place of the question it answered no.
-#[derive(Drop)]
+#[derive(Clone, Copy)]
 pub enum Verdict {
     Accepted,
     Refused(u32, u32),
@@ -47,7 +47,7 @@ pub enum Verdict {
 
 // What a row comes to: a filtered row with its number, none due yet, or the number and the place of the question
 // that was answered no.
-#[derive(Drop)]
+#[derive(Clone, Copy)]
 pub enum Answer {
     Row(u32),
     Waiting,
@@ -55,7 +55,7 @@ pub enum Answer {
 }
 
 // What a closing step comes to: the same, or that all rows are out.
-#[derive(Drop)]
+#[derive(Clone, Copy)]
 pub enum Closing {
     Row(u32),
     Waiting,

@@ -20,7 +20,7 @@ fn block(counts: &[u16]) -> u16
 }
 
 // How many levels, whole blocks of 16, lie before the one in which the sum of the counts reaches the rank, and that sum.
-#[derive(Drop)]
+#[derive(Clone, Copy)]
 struct Before {
     at: usize,
     sum: u32,

@@ -7,7 +7,7 @@ use arith::power;
 use layout::{Rect, Table, columns, rows};
 
 // A loss figure, or the number and the place of the question that the header answers no.
-#[derive(Drop)]
+#[derive(Clone, Copy)]
 pub enum Figure {
     Loss(u64),
     Refused(u32, u32),

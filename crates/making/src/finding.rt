@@ -6,7 +6,7 @@ use forms::kind;
 use text::{line_end, next_line};
 
 // A line: its place in the text, counted from 1, or 0 for no line; where it begins and ends, and where the line after it begins.
-#[derive(Drop)]
+#[derive(Clone, Copy)]
 pub struct Found {
     pub place: u32,
     pub start: usize,

@@ -7,7 +7,7 @@ ghost use Rattle.passes.specs.Passes.{bound_most, bound_end, movable, stepped, m
 use std::num::{wrapping_add_u32, wrapping_sub_u32};
 
 // A column sum after both steps, and a number below 2^17 exactly where both stay within the bound.
-#[derive(Drop)]
+#[derive(Clone, Copy)]
 struct Change {
     sum: u32,
     past: u32,

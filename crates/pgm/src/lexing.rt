@@ -67,7 +67,7 @@ pub fn gap(bytes: &[u8], at: usize) -> usize
 }
 
 // A number, or 65,536 where it is larger, and where its digits end.
-#[derive(Drop)]
+#[derive(Clone, Copy)]
 pub struct Digits {
     pub value: u32,
     pub end: usize,

@@ -23,7 +23,7 @@ pub use shades::encode;
 pub use writing::{head, line};
 
 // What the first bytes of a file come to.
-#[derive(Drop)]
+#[derive(Clone, Copy)]
 pub enum Opening {
     // width, height, maxval, and the length of the header: the samples begin there
     Whole(u32, u32, u32, usize),

@@ -6,7 +6,7 @@ use crate::Opening;
 use crate::lexing::{blank, gap, in_gap, number};
 
 // A number of the header with where it ends, or what is wrong with it.
-#[derive(Drop)]
+#[derive(Clone, Copy)]
 pub enum Part {
     Read(u32, usize),
     Stopped(Opening),

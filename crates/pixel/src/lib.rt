@@ -11,7 +11,7 @@ use layout::{Table, Verdict};
 use value::value;
 
 // A pixel, or the number and the place of the question that was answered no.
-#[derive(Drop)]
+#[derive(Clone, Copy)]
 pub enum Found {
     Pixel(i32),
     Refused(u32, u32),

@@ -20,7 +20,7 @@ pub use steps::step;
 // The edges of a window: rows r + trailrow + 1 to r + leadrow and columns c + trailcol + 1 to c + leadcol of the place at row r,
 // column c.
 #[repr(C)]
-#[derive(Drop)]
+#[derive(Clone, Copy)]
 pub struct Window {
     pub leadrow: i8,
     pub leadcol: i8,
@@ -31,7 +31,7 @@ pub struct Window {
 // A ranked scan: its window, the bits of a sample, the rank and the width, the rows that came in, the closing steps done, and whether
 // it is closed.
 #[repr(C)]
-#[derive(Drop)]
+#[derive(Clone, Copy)]
 pub struct RankScan {
     pub window: Window,
     pub b: u8,
@@ -43,21 +43,21 @@ pub struct RankScan {
 }
 
 // The verdict on starting or closing, and the scan.
-#[derive(Drop)]
+#[derive(Clone, Copy)]
 pub struct Started {
     pub verdict: Verdict,
     pub scan: RankScan,
 }
 
 // The answer to a row, and the scan after it.
-#[derive(Drop)]
+#[derive(Clone, Copy)]
 pub struct Moved {
     pub answer: Answer,
     pub scan: RankScan,
 }
 
 // The answer to a closing step, and the scan after it.
-#[derive(Drop)]
+#[derive(Clone, Copy)]
 pub struct Stepped {
     pub answer: Closing,
     pub scan: RankScan,

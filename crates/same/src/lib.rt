@@ -15,7 +15,7 @@ use spot::{offset, put_spot};
 
 // The tables give the same values on every scan; or their weights differ first at this offset, a row and a column from -15 to 15; or
 // the number and the place of the question that was answered no.
-#[derive(Drop)]
+#[derive(Clone, Copy)]
 pub enum Sameness {
     Same,
     Differs(i32, i32),

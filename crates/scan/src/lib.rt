@@ -19,7 +19,7 @@ pub use steps::step;
 
 // A scan: its table and width, the rows that came in, the closing steps done, and whether it is closed.
 #[repr(C)]
-#[derive(Drop)]
+#[derive(Clone, Copy)]
 pub struct Scan {
     pub table: Table,
     pub width: usize,
@@ -29,21 +29,21 @@ pub struct Scan {
 }
 
 // The verdict on starting or closing, and the scan.
-#[derive(Drop)]
+#[derive(Clone, Copy)]
 pub struct Started {
     pub verdict: Verdict,
     pub scan: Scan,
 }
 
 // The answer to a row, and the scan after it.
-#[derive(Drop)]
+#[derive(Clone, Copy)]
 pub struct Moved {
     pub answer: Answer,
     pub scan: Scan,
 }
 
 // The answer to a closing step, and the scan after it.
-#[derive(Drop)]
+#[derive(Clone, Copy)]
 pub struct Stepped {
     pub answer: Closing,
     pub scan: Scan,

@@ -15,7 +15,7 @@ use limits::value_good;
 use lines::{put_remark, put_table};
 
 // How many bytes were put, or the number and the place of the question answered no.
-#[derive(Drop)]
+#[derive(Clone, Copy)]
 pub enum Shown {
     Length(usize),
     Refused(u32, u32),

@@ -10,7 +10,7 @@ use libc::{STDERR_FILENO, STDIN_FILENO, STDOUT_FILENO};
 use text::put_bytes;
 
 // How many bytes there are, and whether a read failed.
-#[derive(Drop)]
+#[derive(Clone, Copy)]
 pub struct Got {
     pub end: usize,
     pub failed: bool,
@@ -73,7 +73,7 @@ pub fn file(path: &[u8], store: &mut [u8], most: usize) -> Got
 
 // What was read of the input that the command line names: how long its name is, how many bytes there are, and whether they could
 // not be read.
-#[derive(Drop)]
+#[derive(Clone, Copy)]
 pub struct Source {
     pub name: usize,
     pub end: usize,

@@ -37,7 +37,7 @@ pub fn table(path: &[u8], bytes: &mut [u8; 156]) -> Got
 }
 
 // The header of the scan, how many bytes of it were read, and whether a read failed.
-#[derive(Drop)]
+#[derive(Clone, Copy)]
 pub struct Opened {
     pub opening: Opening,
     pub n: usize,
@@ -84,7 +84,7 @@ pub fn opening() -> Opened {
 }
 
 // Whether the scan is taken, and what its header says.
-#[derive(Drop)]
+#[derive(Clone, Copy)]
 pub struct Announced {
     pub taken: bool,
     pub job: Job,

@@ -33,7 +33,7 @@ pub fn about_word(c: Command, i: usize) {
 }
 
 // How filtered rows are written: as decimal numbers, as samples of two bytes from pixels of this many bits, or as bytes.
-#[derive(Drop)]
+#[derive(Clone, Copy)]
 pub enum Form {
     Values,
     Words(u8),
@@ -41,7 +41,7 @@ pub enum Form {
 }
 
 // A scan to filter: what its header says, and how it is written.
-#[derive(Drop)]
+#[derive(Clone, Copy)]
 pub struct Plan {
     pub job: Job,
     pub form: Form,

@@ -13,7 +13,7 @@ use rank::{RankScan, Window};
 use streams::gather;
 
 // The scan after a row, whether more are to be read, and whether output can still be written.
-#[derive(Drop)]
+#[derive(Clone, Copy)]
 pub struct RankTurn {
     pub scan: RankScan,
     pub more: bool,

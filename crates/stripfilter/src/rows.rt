@@ -11,7 +11,7 @@ use scan::Scan;
 use streams::{Got, gather};
 
 // The scan after some rows, whether more are to be read, and whether output can still be written.
-#[derive(Drop)]
+#[derive(Clone, Copy)]
 pub struct Turn {
     pub scan: Scan,
     pub more: bool,

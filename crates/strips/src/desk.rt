@@ -2,7 +2,7 @@
 // of the output are lent to a call.
 use scan::Scan;
 
-#[derive(Drop)]
+#[derive(Clone, Copy)]
 pub struct Desk {
     pub scan: Scan,
     pub samples: usize,

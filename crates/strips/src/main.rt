@@ -34,7 +34,7 @@ use ranked::RankDesk;
 use words::letter;
 
 // What the commands are tried on.
-#[derive(Drop)]
+#[derive(Clone, Copy)]
 struct Desks {
     scan: Desk,
     ranked: RankDesk,

@@ -5,7 +5,7 @@ use arith::signed_byte;
 use rank::{RankScan, Window};
 
 // A ranked scan, and how many places of its three stores and of the output are lent to a call.
-#[derive(Drop)]
+#[derive(Clone, Copy)]
 pub struct RankDesk {
     pub scan: RankScan,
     pub samples: usize,

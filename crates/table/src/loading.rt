@@ -9,7 +9,7 @@ use layout::{Rect, Table, Verdict};
 use limits::value_good;
 
 // What loading answers: the verdict, and the table, which has no rectangle where the file was refused.
-#[derive(Drop)]
+#[derive(Clone, Copy)]
 pub struct Loaded {
     pub verdict: Verdict,
     pub table: Table,

@@ -10,7 +10,7 @@ use layout::{Rect, Table};
 use limits::accepted;
 
 // How many bytes were written, or the number and the place of the question answered no.
-#[derive(Drop)]
+#[derive(Clone, Copy)]
 pub enum Written {
     Length(usize),
     Refused(u32, u32),

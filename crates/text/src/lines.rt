@@ -30,7 +30,7 @@ pub fn next_line(text: &[u8], at: usize) -> usize
 }
 
 // Where a line stands in a text: from `start` up to `end`.
-#[derive(Drop)]
+#[derive(Clone, Copy)]
 pub struct Span {
     pub start: usize,
     pub end: usize,

@@ -47,7 +47,7 @@ pub fn is_integer(w: &[u8]) -> bool
 }
 
 // A number: whether it has a - in front, and its size, held at 65,536 where it is larger.
-#[derive(Drop)]
+#[derive(Clone, Copy)]
 pub struct Signed {
     pub minus: bool,
     pub size: u32,
