@@ -1,5 +1,7 @@
 // Inner: arithmetic that has nothing to do with filters. Bounded sums, passes over a store, truncation by a power of two, integers
 // and their words, floor division, ⟨log2 n⟩. The definitions stand in specs/, what is proved of them in proofs/.
+#![tactic(auto)]
+
 mod copying;
 mod floor;
 mod log;

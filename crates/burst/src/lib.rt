@@ -3,6 +3,8 @@
 //
 //   rows  how many rows were taken, how many filtered rows stand packed in the output, and the refusal of the first row that is refused; or
 //         14, 15, 21 or 13 before any row
+#![tactic(auto)]
+
 mod handing;
 
 pub use handing::rows;

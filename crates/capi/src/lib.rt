@@ -1,4 +1,6 @@
 // The library for C: each call of the header include/strip.h, over the proved call that does the work.
+#![tactic(auto)]
+
 mod bursts;
 mod comparing;
 mod pixels;

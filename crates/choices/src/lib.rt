@@ -4,6 +4,8 @@
 //
 //   with_drops  a table with a choice in place of its own drops
 //   mark        which choices are listed
+#![tactic(auto)]
+
 mod marks;
 mod ratings;
 

@@ -4,6 +4,8 @@
 //   number         the number that a word of the command line is
 //   no_most        what stands for no bound on the pixels
 //   put_no_number  the line of a word that is no number
+#![tactic(auto)]
+
 mod cells;
 mod lines;
 mod numbers;

@@ -2,6 +2,8 @@
 //
 //   next   what the command line comes to with one word more
 //   ended  what it comes to when there are no more words
+#![tactic(auto)]
+
 mod line;
 
 pub use line::{ended, next};

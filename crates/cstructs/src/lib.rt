@@ -1,4 +1,6 @@
 // Inner: the structs of the header include/strip.h, each from what a call answers.
+#![tactic(auto)]
+
 mod answers;
 mod bursts;
 mod pixels;

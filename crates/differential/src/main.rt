@@ -1,5 +1,7 @@
 // A filter written apart from the engine, run beside it on many scans, and a ranked filter in the same way: prints what was
 // counted and a checksum of the pixels of each.
+#![tactic(auto)]
+
 ghost use Rattle.std.specs.Prelude.{◌≤◌};
 
 mod chance;

@@ -1,6 +1,8 @@
 // drops TABLE [MOST [WIDTH]]: which choices of the three drops are worth having for a table file. Prints a line for each choice that is
 // listed, with MOST only those that keep every pixel within MOST of the full one, at rows of WIDTH samples, or of 1024. What cannot be
 // read, a refusal and a word that is no number are a line on standard error.
+#![tactic(auto)]
+
 ghost use Rattle.std.specs.Prelude.{◌≤◌, length};
 
 use choicetext::Word;

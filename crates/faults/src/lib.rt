@@ -1,6 +1,8 @@
 // What is said of an input that is refused, by its number: 1 to 25 are the rules' refusals, 101 to 113 the faults of a table's text.
 //
 //   put_fault  the message: the name of the input, the line at fault, and what the number means
+#![tactic(auto)]
+
 ghost use Rattle.std.specs.Prelude.{◌≡◌, ◌++◌, ◌+◌, ◌-◌, ◌≤◌, length, take};
 ghost use Rattle.text.specs.Text.{Put, put_text, put_end};
 ghost use Rattle.text.specs.Ascii.{line, lines};

@@ -2,6 +2,8 @@
 //
 //   measure  the figures of a table at a width: its word lengths, the bits of all its sums, and how far a pixel may be from the full
 //            one; not accepted, and 0, where loading does not accept the table or the width is not from 1 to 1024
+#![tactic(auto)]
+
 ghost use Rattle.std.specs.Prelude.{◌≡◌};
 ghost use Rattle.figures.specs.Measured.{not_measured, figures_of};
 

@@ -7,6 +7,8 @@
 //   read_most, whole_part          how many bytes to read, and how many samples go to the engine
 //   rows_left, packed, forward     what is still to come, what came out, and what is moved to the start of the store
 //   centred                        the edges of a window of so many rows or columns around its place
+#![tactic(auto)]
+
 mod judging;
 mod moving;
 mod saying;

@@ -4,6 +4,8 @@
 //   look  what is asked of a line by itself: 101 to 107
 //   byte  number k of a header's line, held at 255 where it is larger
 //   rect  the rectangle of a line, its edges held at 127 and its weight at 16 bits where they are larger
+#![tactic(auto)]
+
 mod asked;
 mod held;
 mod kinds;

@@ -5,6 +5,8 @@
 //   column_word, window_word  the word lengths of a rectangle, formulas (6) and (7)
 //   delay                     D, the delay of a table
 //   due_row, due_step         what an arrival answers with a delay: a row, or waiting
+#![tactic(auto)]
+
 mod dues;
 mod measure;
 

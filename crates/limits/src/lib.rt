@@ -8,6 +8,8 @@
 //   accepted      question 11: is this a table that loading accepts
 //   extremes_fit  whether two extremes, divided by 2^shift and rounded down, fit words that question 5 allows
 //   loss          the loss figure; or a refusal, 3 or 4
+#![tactic(auto)]
+
 mod accept;
 mod figure;
 mod header;

@@ -1,6 +1,8 @@
 // The table listing: reads a table file from standard input and prints what it holds, or the number of the
 // refusal. No more bytes are read than loading needs. Where they cannot be read, a line on standard error says so, and what came is
 // listed.
+#![tactic(auto)]
+
 mod cells;
 mod lines;
 

@@ -1,5 +1,7 @@
 // maketable [TEXT] > TABLE: makes a table file from its text: the file that the word names, or standard input. A refusal, or an input
 // that cannot be read, is a line on standard error, and nothing is written.
+#![tactic(auto)]
+
 use libc::STDERR_FILENO;
 use streams::{put, refuse};
 use table::Written;

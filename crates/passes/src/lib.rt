@@ -1,6 +1,8 @@
 // Inner: the loops over the columns of a row, on plain slices and numbers; none knows a table. Column sums are updated and asked, or
 // rolled back; a line is made its running sums; differences of two lines are weighed into values, of 32 bits modulo 2^32 or of 64; and
 // the pixels of a row are written, or asked whether they fit their words.
+#![tactic(auto)]
+
 mod lines;
 mod pixels;
 mod sums;

@@ -8,6 +8,8 @@
 //   line           a row of pixels as decimal numbers, and the length of the text
 //   head           the header of the picture, and its length
 //   number         the number that begins at a place, 65,536 where it is larger, and where its digits end
+#![tactic(auto)]
+
 mod levels;
 mod lexing;
 mod parsing;

@@ -1,4 +1,6 @@
 // The one-pixel call: the pixel at a place of a scan that is lent whole, worked out from the covered samples.
+#![tactic(auto)]
+
 ghost use Rattle.std.specs.Prelude.{◌≡◌};
 ghost use Rattle.pixel.specs.Call.{found_said, pixel_answer};
 

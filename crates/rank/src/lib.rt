@@ -7,6 +7,8 @@
 //   row    a row of levels in the output with its number, waiting, or a refusal: 14, 15, 16, 17, 13, 18 or 19
 //   close  the scan closed; or a refusal, 14 or 15
 //   step   a row of levels, waiting, done, or a refusal: 14, 15, 13 or 19
+#![tactic(auto)]
+
 mod rows;
 mod starts;
 mod state;

@@ -1,4 +1,6 @@
 // The words for a refusal's number, once for every program.
+#![tactic(auto)]
+
 ghost use Rattle.std.specs.Prelude.{◌≡◌};
 ghost use Rattle.text.specs.Text.{put_text, put_end};
 ghost use Rattle.refusals.specs.Sentences.{refusal_text};

@@ -1,5 +1,7 @@
 // Inner: rows kept in a ring of 32. Row e of a scan of L columns stands from place (e mod 32)·L of the sample store on, so that the
 // store holds the last 32 rows. `keep` puts the arriving row into its place, and `row_at` reads a row.
+#![tactic(auto)]
+
 ghost use Rattle.std.specs.Prelude.{◌≡◌, ◌*◌, ◌%◌, pos, length};
 ghost use Rattle.arith.specs.Tab.{tab, paste};
 ghost use Rattle.ring.specs.Ring.{row_at, RingFits};

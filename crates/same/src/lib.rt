@@ -1,4 +1,6 @@
 // M-106: whether two tables without drops do the same, whatever scan they filter; and where not, a scan that shows it.
+#![tactic(auto)]
+
 ghost use Rattle.std.specs.Prelude.{◌≡◌, ◌≤◌, length};
 ghost use Rattle.layout.specs.Answers.{wrote};
 ghost use Rattle.same.specs.Same.{sameness_said, first_unlike, compared_at, same_of};

@@ -1,5 +1,7 @@
 // sametable TABLE TABLE: whether two table files do the same. Prints `same`; or the first offset where their weights differ, and the
 // two weights there; or a refusal in words. A file that cannot be read is a line on standard error.
+#![tactic(auto)]
+
 mod answers;
 mod weights;
 

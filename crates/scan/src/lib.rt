@@ -6,6 +6,8 @@
 //   close       the scan closed; or a refusal, 14 or 15
 //   step        a filtered row, waiting, done, or a refusal: 14, 15, 13 or 19
 //   state_good  question 14
+#![tactic(auto)]
+
 mod rows;
 mod starts;
 mod state;

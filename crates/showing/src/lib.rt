@@ -2,6 +2,8 @@
 //
 //   show  how many bytes were put at the start of the output; or the refusal, by questions 1 to 9. A table that question 10 refuses is
 //         shown, with a comment behind it
+#![tactic(auto)]
+
 mod cells;
 mod lines;
 

@@ -1,5 +1,7 @@
 // showtable [TABLE] > TEXT: shows a table file as text: the file that the word names, or standard input. A refusal, or an input that
 // cannot be read, is a line on standard error, and nothing is shown.
+#![tactic(auto)]
+
 use libc::STDERR_FILENO;
 use showing::Shown;
 use streams::{put, refuse};

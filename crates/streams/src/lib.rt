@@ -1,5 +1,7 @@
 // Inner: reading and writing for the programs. A read that fails is told apart from the end of the input, and output that cannot
 // be written is said on standard error.
+#![tactic(auto)]
+
 ghost use Rattle.std.specs.Prelude.{◌≤◌, length, ◌≡◌};
 ghost use Rattle.io.specs.Counts.{IsPrefixLen};
 ghost use Rattle.text.specs.Text.{put_text, put_end};

@@ -2,6 +2,8 @@
 // ROWS COLS in place of a table, by a ranked window, and writes a PGM of the same maxval; with --values the pixels as decimal numbers,
 // a line a row. The rows that one read brings are filtered and written before more is read. A fault is a line on standard error. What
 // is decided stands in the crate filtering; here bytes are moved between calls.
+#![tactic(auto)]
+
 mod input;
 mod output;
 mod ranks;

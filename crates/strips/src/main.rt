@@ -20,6 +20,8 @@
 //   Begin B LEADROW LEADCOL TRAILROW TRAILCOL R L   start, all in hexadecimal, the edges as bytes
 //   Row X X .. / Close / Step / Numbers ROWS MORE STEPS SHUT   as above
 //   Keep I X / Alter I X / Window I X   a kept sample, a column count, a window count set by hand; answers what stood there
+#![tactic(auto)]
+
 mod answered;
 mod commands;
 mod desk;

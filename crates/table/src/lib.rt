@@ -7,6 +7,8 @@
 //   bare         a table of a header's numbers and no rectangle
 //   refused      a refusal as loading hands it out
 //   write        the length 9 + 9·(rectangles), the file at the start of the output; or a refusal, 11 or 13
+#![tactic(auto)]
+
 mod loading;
 mod reading;
 mod writing;

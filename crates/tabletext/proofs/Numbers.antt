@@ -1,6 +1,6 @@
 -- What a table's text is refused with.
 -- Assumes nothing.
-use Prim.Native.Nat.{ℕ, zero, suc, ◌+◌, ◌≤◌}
+use Prim.Native.Nat.{ℕ, zero, suc, ◌+◌, ◌-◌, ◌≤◌}
 use native.Mathlib.Omega.{arith}
 use mathlib.Core.Path.{◌≡◌, subst}
 use mathlib.Core.Bool.{Bool, true, false, cond}
@@ -79,7 +79,7 @@ lines_numbers place (words ∷ lines) =
 rects_numbers : (left : ℕ) (ls : List Line) → Numbered (rects_ask left ls)
 unfolding rects_ask rect_asks among make_numbers
 rects_numbers left [] = tt
-rects_numbers left (l ∷ ls) = (tt, (tt, rects_numbers _ ls))
+rects_numbers left (l ∷ ls) = (tt, (tt, rects_numbers (left - 1) ls))
 
 once_numbers : (text : List ℕ) → Numbered (all_once text)
 unfolding all_once once_asks among make_numbers

@@ -10,6 +10,8 @@
 //   line        where line k of a text stands
 //   put_line    line k of a text
 //   fill_line   line k of a text with numbers in place of each #
+#![tactic(auto)]
+
 mod filling;
 mod lines;
 mod putting;

@@ -6,6 +6,8 @@
 //   is_number   whether a word is a number without a sign
 //   is_integer  whether it is an integer
 //   number      word k of a line as a number: whether it has a - in front, and its size, held at 65,536 where it is larger
+#![tactic(auto)]
+
 mod numbers;
 mod parts;
 

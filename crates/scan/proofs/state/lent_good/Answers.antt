@@ -1,0 +1,12 @@
+-- The stores are asked first, then the output.
+use mathlib.Core.Path.{sym, ◌∙◌}
+use Rattle.scan.specs.Calls.{lent_good}
+use Rattle.scan.proofs.state.lent_good.Goals as goal
+
+pub returns-then-stores_good : goal.returns-then-stores_good
+unfolding lent_good
+returns-then-stores_good c = rw (sym c.stores_good.ensures ∙ c.if-stores_good.true)
+
+pub returns-else-stores_good : goal.returns-else-stores_good
+unfolding lent_good
+returns-else-stores_good c = rw (sym c.stores_good.ensures ∙ c.if-stores_good.false)

@@ -1,0 +1,15 @@
+-- Four lines, one after the other.
+-- Assumes nothing.
+use Rattle.text.specs.Ascii.{ascii}
+use Rattle.text.proofs.Puts.{put_then}
+use Rattle.showing.specs.Showing.{number_line, head_lines}
+use Rattle.showing.proofs.lines.put_head.Goals as goal
+
+pub returns-clause-put : goal.returns-clause-put
+unfolding ascii number_line head_lines
+returns-clause-put c =
+    let x = c.put_number-a.ensures in
+    let y = c.put_drops-a.ensures in
+    let z = c.put_number-a-2.ensures in
+    let w = c.put_number.ensures in
+    put_then (put_then (put_then x.put y.put) z.put) w.put
