@@ -5,8 +5,8 @@
 #:   make uninstall  takes them away again
 #:
 #: To try it
-#:   make test       the gate: every crate proved from nothing, every must-fail edit refused, every program run, and all of the next six;
-#:                   40 to 70 minutes on two cores
+#:   make test       the gate: every crate proved, every must-fail edit refused, every program run, and all of the next six; from nothing
+#:                   45 minutes or so on four cores
 #:   make examples   the header compiled as C and C++, the C examples run
 #:   make python     the Python module beside a filter in plain Python
 #:   make outside    the library, through its C interface, and the fitter's programs beside what was written separately from the rules
@@ -38,11 +38,11 @@ help:
 
 run:
 	@scripts/need.sh rt
-	@scripts/prove.sh run check listing stripfilter
-	@target/bin/stripfilter tables/even.table <scans/strip.pgm >build/strip-filtered.pgm
+	@scripts/prove.sh run run listing stripfilter
+	@build/bin/stripfilter tables/even.table <scans/strip.pgm >build/strip-filtered.pgm
 	@echo "the strip as it was scanned:    scans/strip.pgm"
 	@echo "filtered by tables/even.table:  build/strip-filtered.pgm"
-	@target/bin/stripfilter --rank 13 5 5 <scans/grit.pgm >build/grit-ranked.pgm
+	@build/bin/stripfilter --rank 13 5 5 <scans/grit.pgm >build/grit-ranked.pgm
 	@echo "a strip with grit:              scans/grit.pgm"
 	@echo "by the median of 5 by 5:        build/grit-ranked.pgm"
 	@if command -v python3 >/dev/null 2>&1; then \
@@ -50,14 +50,14 @@ run:
 	    echo "the same as PNG:                build/strip.png, build/strip-filtered.png, build/grit.png, build/grit-ranked.png"; \
 	fi
 	@echo "tables/a.table:"
-	@target/bin/listing <tables/a.table
+	@build/bin/listing <tables/a.table
 
 lib: build/libstrip.a build/libstrip.so build/strip.h
 
-build/libstrip.a: crates.txt $(shell find crates -name '*.rt' -o -name '*.antt')
+build/libstrip.a: crates.txt $(shell find crates -name out -prune -o \( -name '*.rt' -o -name '*.antt' \) -print)
 	@scripts/need.sh rt
-	@scripts/prove.sh lib staticlib capi
-	@cp target/staticlib/libcapi.a $@
+	@scripts/prove.sh lib lib capi
+	@cp crates/capi/out/libcapi.a $@
 
 build/libstrip.so: build/libstrip.a scripts/strip.map
 	@scripts/need.sh gcc
@@ -68,7 +68,7 @@ build/strip.h: include/strip.h
 
 proved-programs:
 	@scripts/need.sh rt
-	@scripts/prove.sh programs check $(PROGRAMS)
+	@scripts/prove.sh programs run $(PROGRAMS)
 
 install: lib proved-programs
 	@install -d $(DESTDIR)$(PREFIX)/include $(DESTDIR)$(LIBDIR)/pkgconfig $(DESTDIR)$(PREFIX)/bin
@@ -79,7 +79,7 @@ install: lib proved-programs
 	@ln -sf $(SONAME) $(DESTDIR)$(LIBDIR)/libstrip.so
 	@sed 's|@PREFIX@|$(PREFIX)|; s|@LIBDIR@|$(LIBDIR)|; s|@VERSION@|$(VERSION)|' strip.pc.in >build/strip.pc
 	@install -m 644 build/strip.pc $(DESTDIR)$(LIBDIR)/pkgconfig/strip.pc
-	@for name in $(PROGRAMS); do install -m 755 target/bin/$$name $(DESTDIR)$(PREFIX)/bin/$$name; done
+	@for name in $(PROGRAMS); do install -m 755 build/bin/$$name $(DESTDIR)$(PREFIX)/bin/$$name; done
 	@echo "installed under $(DESTDIR)$(PREFIX)"
 
 uninstall:
@@ -117,10 +117,10 @@ stack: lib
 
 bench: lib
 	@scripts/need.sh gcc
-	@scripts/prove.sh bench check stripfilter
+	@scripts/prove.sh bench run stripfilter
 	@gcc -O2 -Wall -Wextra -Ibuild bench/program.c build/libstrip.a -o build/bench-program
-	@build/bench-program target/bin/stripfilter tables/a.table build
-	@build/bench-program target/bin/stripfilter tables/even.table build
+	@build/bench-program build/bin/stripfilter tables/a.table build
+	@build/bench-program build/bin/stripfilter tables/even.table build
 	@BEFORE="$(BEFORE)" bench/run.sh
 
 edits:
@@ -143,4 +143,4 @@ clean:
 	@rm -rf build tests/target python/__pycache__ scripts/__pycache__
 
 distclean: clean
-	@rm -rf target
+	@rm -rf crates/*/out

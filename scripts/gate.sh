@@ -1,12 +1,11 @@
 #!/bin/sh
-# The gate. `rt ci` proves every crate from nothing, tries the must-fail edits and runs the programs; the tests of the programs, the library for C, the
-# examples, the Python module, installing, the stack and the outside tests then use what it proved, and the lowered form of the passes over columns is
-# searched for a division. The last line is that of `rt ci`, 'N passed, M failed', and stands there only if all else passed. All that `rt ci` prints is
-# in build/log/test.log.
+# The gate. `rt ci` proves every crate, tries the must-fail edits and runs the programs; the tests of the programs, the library for C, the examples,
+# the Python module, installing, the stack and the outside tests then use what it proved, and the lowered form of the passes over columns, which the
+# library was made of, is searched for a division. The last line is that of `rt ci`, 'N passed, M failed', and stands there only if all else passed.
+# All that `rt ci` prints is in build/log/test.log.
 cd "$(dirname "$0")/.." || exit 2
 log=build/log/test.log
 mkdir -p build/log
-rt fmt --check || exit 1
 python3 scripts/agree.py || exit 1
 { rt ci; echo $? >"$log.status"; } 2>&1 | tee "$log" | sed -u '$d'
 last=$(tail -n 1 "$log")
@@ -14,6 +13,14 @@ if [ "$(cat "$log.status")" -ne 0 ]; then
     echo "$last"
     exit 1
 fi
-python3 scripts/passes.py || exit 1
+# `rt ci` passes with edits that it could not try: each must-fail edit is refused, and none is bad
+ok=$(grep '^rt: ok;' "$log")
+edits=$(find crates/*/must-fail -name '*.edit' | wc -l)
+case $ok in
+    *"must-fail edits: $edits refused"*) ;;
+    *) echo "not all of the $edits must-fail edits are refused: $ok"; exit 1 ;;
+esac
+case $ok in *", "[0-9]*" bad"*) echo "a must-fail edit is bad: $ok"; exit 1 ;; esac
 make --no-print-directory programs examples python installed stack outside || { echo "what stands around the crates failed"; exit 1; }
+python3 scripts/passes.py || exit 1
 echo "$last"

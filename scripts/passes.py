@@ -1,15 +1,15 @@
 #!/usr/bin/env python3
 """No remainder and no division in a pass over the columns of a row: the place of a kept row is found before it.
 
-passes.py          the lowered form (`rt mir`) of the engines' crates, after the fixtures, each of which must be refused
+passes.py          the lowered form of the engines' crates, which `rt ci` and `rt lib` leave, after the fixtures, each of which must be refused
 passes.py FILE..   only these files of lowered form
 
 A loop of these crates counts as one over columns unless it is named below. Neither in it nor in anything that it calls, however far
 down, may a remainder or a division stand.
 """
 import glob
+import json
 import os
-import re
 import subprocess
 import sys
 
@@ -17,48 +17,65 @@ CRATES = ["arith", "ring", "rule", "passes", "arrival", "engine", "scan", "level
 # loops over rectangles: each finds the rows that its edges reach, then runs passes
 OVER_RECTANGLES = {"engine::rows::values", "engine::rows::roll_back_first"}
 ROOT = os.path.dirname(os.path.dirname(os.path.abspath(__file__)))
+# A body is a list in Polish order: how many parts follow each word, but for Switch, which has one for each arm and one for the rest.
+PARTS = {"Seq": 2, "If": 2, "Block": 1, "Loop": 1}
+PARTS.update(dict.fromkeys(["Skip", "Return", "Assign", "Call", "CallV", "Exit", "Unreachable", "LendStatic", "Foreign"], 0))
 
 
-def parse(text):
-    """The lowered form as nested lists of words."""
-    stack = [[]]
-    for word in re.findall(r'\(|\)|"[^"]*"|[^\s()]+', text):
-        if word == "(":
-            stack.append([])
-        elif word == ")":
-            done = stack.pop()
-            stack[-1].append(done)
-        else:
-            stack[-1].append(word.strip('"'))
-    return stack[0]
+def head(word):
+    return word if isinstance(word, str) else next(iter(word))
 
 
-def within(tree, head):
-    """Every part of the tree that begins with a word, the outermost first."""
-    todo = [tree]
+def parts(word):
+    if head(word) == "Switch":
+        _, arms, rest = word["Switch"]
+        return len(arms) + rest
+    if head(word) not in PARTS:
+        sys.exit(f"passes: a word of the lowered form that is not known: {head(word)}")
+    return PARTS[head(word)]
+
+
+def end(body, start):
+    """Where the part of a body ends that begins at a place."""
+    open_parts = 1
+    while open_parts:
+        open_parts += parts(body[start]) - 1
+        start += 1
+    return start
+
+
+def loops(body):
+    """The parts of a body that are loops."""
+    if end(body, 0) != len(body):
+        sys.exit("passes: a body does not end where it should")
+    return [body[i:end(body, i)] for i, word in enumerate(body) if head(word) == "Loop"]
+
+
+def under(part, name):
+    """What stands under a name anywhere in a part."""
+    todo = [part]
     while todo:
-        part = todo.pop()
-        if isinstance(part, list):
-            if part and part[0] == head:
-                yield part
-            todo.extend(part)
+        x = todo.pop()
+        if isinstance(x, dict):
+            todo.extend(x.values())
+            if name in x:
+                yield x[name]
+        elif isinstance(x, list):
+            todo.extend(x)
 
 
-def divides(tree):
-    return any(isinstance(op[1], list) and op[1][0] in ("rem", "div") for op in within(tree, "op2"))
+def divides(part):
+    return any(isinstance(op[0], dict) and ({"Rem", "Div"} & set(op[0])) for op in under(part, "Op2"))
 
 
-def calls(tree):
-    return {ref[1] for ref in within(tree, "fnRef")}
+def calls(part):
+    return {ref[0] for ref in under(part, "Fn")}
 
 
-def faults(text, crate, looping):
-    """The loops of a crate (or of all functions) that divide, and how they come to it; the functions with loops are noted."""
-    functions = {part[1]: part[2] for part in within(parse(text), "fn-def")}
-    for name, body in functions.items():
-        if crate and not name.startswith(crate + "::"):
-            continue
-        for loop in within(body, "loop"):
+def faults(functions, own, looping):
+    """The loops of these functions that divide, and how they come to it; the functions with loops are noted."""
+    for name in own:
+        for loop in loops(functions[name]):
             looping.add(name)
             if name in OVER_RECTANGLES:
                 continue
@@ -75,23 +92,42 @@ def faults(text, crate, looping):
                 todo |= calls(functions[callee])
 
 
+def bodies(file):
+    """The functions of a file, each with its body."""
+    with open(file) as f:
+        return {name: function["body"] for name, function in json.load(f)}
+
+
 def lowered(crate):
-    got = subprocess.run(["rt", "mir", crate], cwd=ROOT, capture_output=True, text=True)
-    if got.returncode:
-        sys.exit(f"passes: rt mir {crate} failed\n{got.stderr}")
-    return got.stdout
+    """The file of a crate's lowered form; the newer where there are two."""
+    found = glob.glob(os.path.join(ROOT, "crates", crate, "out", "rlib", "*.rlib", "toolchain", "mir.json"))
+    if not found:
+        sys.exit(f"passes: crates/{crate} is not built: `rt ci` or `rt lib` leaves its lowered form")
+    return max(found, key=os.path.getmtime)
+
+
+def kit():
+    """The folder of the kit, whose libraries a loop may call."""
+    return os.path.dirname(subprocess.run(["rt", "doc"], capture_output=True, text=True, check=True).stdout.strip())
 
 
 def main(files):
     looping = set()
     if files:
-        found = [f"{f}: {fault}" for f in files for fault in faults(open(f).read(), "", looping)]
+        found = [f"{f}: {fault}" for f in files for fault in faults(bodies(f), list(bodies(f)), looping)]
     else:
-        for fixture in sorted(glob.glob(os.path.join(ROOT, "tests", "passes", "*.mir"))):
-            if not list(faults(open(fixture).read(), "", looping)):
+        for fixture in sorted(glob.glob(os.path.join(ROOT, "tests", "passes", "*.json"))):
+            if not list(faults(bodies(fixture), list(bodies(fixture)), looping)):
                 sys.exit(f"passes: {os.path.relpath(fixture, ROOT)} divides in a loop, and was not refused")
         looping.clear()
-        found = [fault for crate in CRATES for fault in faults(lowered(crate), crate, looping)]
+        functions, own = {}, []
+        for file in glob.glob(os.path.join(kit(), "rlibs", "*.rlib", "toolchain", "mir.json")):
+            functions.update(bodies(file))
+        for crate in CRATES:
+            got = bodies(lowered(crate))
+            functions.update(got)
+            own += got
+        found = list(faults(functions, own, looping))
         found += [f"{name} has no loop, and is named as one over rectangles" for name in sorted(OVER_RECTANGLES - looping)]
     for fault in found:
         print("passes:", fault)

@@ -4,12 +4,12 @@
 # on shapes cut in several ways; tables to text and back, texts with each fault, choices of drops, and what docs/FITTING.md says of them.
 set -u
 cd "$(dirname "$0")/.." || exit 2
-strip=$PWD/target/bin/stripfilter
-list=$PWD/target/bin/listing
-compare=$PWD/target/bin/sametable
-make=$PWD/target/bin/maketable
-show=$PWD/target/bin/showtable
-drops=$PWD/target/bin/drops
+strip=$PWD/build/bin/stripfilter
+list=$PWD/build/bin/listing
+compare=$PWD/build/bin/sametable
+make=$PWD/build/bin/maketable
+show=$PWD/build/bin/showtable
+drops=$PWD/build/bin/drops
 for program in "$strip" "$list" "$compare" "$make" "$show" "$drops"; do
     [ -x "$program" ] || { echo "programs: $program is not built; run 'make programs'"; exit 2; }
 done
@@ -232,7 +232,7 @@ done
 sed -n '/^## From a text/,/^## /s/^    \$ //p' docs/FITTING.md >"$work/commands"
 [ "$(wc -l <"$work/commands")" -eq 5 ] || fail "docs/FITTING.md has not five commands"
 mkdir "$work/desk" && ln -s "$PWD/tables" "$PWD/scans" "$work/desk"
-(PATH=$PWD/target/bin:$PATH && cd "$work/desk" && sh -e ../commands) >"$work/said" 2>&1 || fail "the five commands of docs/FITTING.md"
+(PATH=$PWD/build/bin:$PATH && cd "$work/desk" && sh -e ../commands) >"$work/said" 2>&1 || fail "the five commands of docs/FITTING.md"
 sed -n '/^## From a text/,/^## /s/^    \([0-9e]\)/\1/p' docs/FITTING.md >"$work/wanted"
 same "what the five commands print" "$work/said" "$work/wanted"
 python3 scripts/filter.py "$work/desk/mine.table" <scans/strip.pgm >"$work/wanted"

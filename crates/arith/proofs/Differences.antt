@@ -3,9 +3,9 @@
 use Prim.Native.Nat.{ℕ, ◌^◌, ◌<◌}
 use native.Mathlib.Nat.{lt_of_lt_of_le}
 use native.Mathlib.Omega.{arith}
-use mathlib.Core.Path.{◌≡◌, refl, sym, ◌∙◌, subst}
-use lib.Dec.{T, lit≤, lit<}
-use lib.IntN.{ℤ, pos, sub_ℕ, ◌-ℤ◌}
+use mathlib.Core.Path.{◌≡◌, ◌∙◌}
+use lib.Dec.{lit≤}
+use lib.IntN.{sub_ℕ, ◌-ℤ◌}
 use mir.Syntax.{w64}
 use mir.Val.{SFits, to_z, of_z}
 use mir.Facts.{to_z-of_z, to_z_pos}

@@ -1,7 +1,7 @@
 -- Floor division by a power of two: the largest whole number that times 2^t is not above z, monotone, no larger in size.
 -- Assumes nothing.
-use Prim.Native.Nat.{ℕ, suc, ◌+◌, ◌*◌, ◌/◌, ◌%◌, ◌^◌, ◌≤◌, ◌<◌}
-use native.Mathlib.Nat.{div-mul-le_self, lt-div-mul-add, div-le_self, div-eq_of_lt}
+use Prim.Native.Nat.{ℕ, ◌/◌, ◌^◌, ◌<◌}
+use native.Mathlib.Nat.{div-mul-le_self, lt-div-mul-add, div-eq_of_lt}
 use native.Mathlib.Omega.{arith}
 use mathlib.Core.Path.{◌≡◌, sym, ap, ◌∙◌}
 use lib.Dec.{le→leb, leb→le}

@@ -1,6 +1,6 @@
 -- Laws of remainders: sums modulo a number, and integers modulo 2^32.
 -- Assumes nothing.
-use Prim.Native.Nat.{ℕ, zero, suc, ◌+◌, ◌-◌, ◌*◌, ◌/◌, ◌%◌, ◌^◌, ◌≤◌, ◌<◌}
+use Prim.Native.Nat.{ℕ, zero, suc, ◌+◌, ◌-◌, ◌*◌, ◌/◌, ◌%◌}
 use native.Mathlib.Nat.{add-mul-mod_self_left, mod-add-mod, add-mod-mod, div-add-mod, mod-eq_of_lt}
 use native.Mathlib.Omega.{arith}
 use mathlib.Core.Path.{◌≡◌, refl, sym, ap, ◌∙◌}
@@ -9,7 +9,7 @@ use lib.IntN.{ℤ, pos, negsuc}
 use Rattle.arith.specs.Sum.{sum}
 use Rattle.arith.specs.Diff.{Diff}
 use Rattle.arith.specs.Twos.{signed, fits_signed}
-use Rattle.arith.proofs.Sums.{sum-suc, sum-add, sum_scale, sum_cong}
+use Rattle.arith.proofs.Sums.{sum-add, sum_scale, sum_cong}
 use Rattle.arith.proofs.Words.{fits_mag, signed_low, signed_high}
 
 -- numbers that differ by multiples of n have one remainder

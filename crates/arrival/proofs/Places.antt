@@ -1,7 +1,7 @@
 -- The line of a rectangle's truncated column sums: its windows by place are those of the rule, and how large they are.
 -- Assumes nothing.
-use Prim.Native.Nat.{ℕ, suc, ◌+◌, ◌-◌, ◌*◌, ◌/◌, ◌^◌, ◌≤◌, ◌<◌, zero-le}
-use native.Mathlib.Nat.{le_trans, sub-le, mul_assoc, mul-le-mul, mul-le-mul_left, mul-le-mul_right, le-mul_of_pos_right, div-mul-le_self, div-le_self, zero-div}
+use Prim.Native.Nat.{ℕ, ◌+◌, ◌-◌, ◌*◌, ◌/◌, ◌^◌, ◌≤◌, ◌<◌, zero-le}
+use native.Mathlib.Nat.{le_trans, sub-le, mul_assoc, mul-le-mul, mul-le-mul_right, le-mul_of_pos_right, div-le_self, zero-div}
 use native.Mathlib.Omega.{arith}
 use mathlib.Core.Path.{◌≡◌, refl, sym, ap, ◌∙◌, subst}
 use mathlib.Core.Bool.{Bool, true, false, cond, not}

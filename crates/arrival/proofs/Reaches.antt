@@ -1,12 +1,10 @@
 -- What the passes read of a line at the places of a rectangle's edges: the change of its window, or by running sums the window.
 -- Assumes nothing.
-use Prim.Native.Nat.{ℕ, suc, ◌+◌, ◌-◌, ◌*◌, ◌/◌, ◌%◌, ◌^◌, ◌≤◌, ◌<◌}
+use Prim.Native.Nat.{ℕ, suc, ◌+◌, ◌*◌, ◌/◌, ◌%◌, ◌^◌, ◌<◌}
 use native.Mathlib.Nat.{div-add-mod, div-one}
 use native.Mathlib.Omega.{arith}
-use mathlib.Core.Path.{◌≡◌, refl, sym, ap, ap₂, ◌∙◌}
-use mathlib.Core.Bool.{true, false}
+use mathlib.Core.Path.{◌≡◌, ap, ap₂, ◌∙◌}
 use mathlib.Core.List.{List}
-use lib.Dec.{eqb}
 use lib.ListN.{get_or}
 use borrow.Author.Tests.{eq-eqb, ne_eqb}
 use Rattle.arith.specs.Part.{pos_part, neg_part}
@@ -16,7 +14,7 @@ use Rattle.arith.proofs.Sums.{sum_bound, sum_zero}
 use Rattle.layout.specs.declared.Rect.{Rect}
 use Rattle.layout.specs.Measure.{cols_of}
 use Rattle.limits.proofs.Bounds.{RectBounds, rect_bounds}
-use Rattle.passes.specs.Passes.{bound_most, less, weighed, running, scaled, plus}
+use Rattle.passes.specs.Passes.{bound_most, less, weighed, scaled, plus}
 use Rattle.arrival.specs.Rectangles.{place, window_over, change_over, share_over, factor_of, with_share, with_line, ZeroPadded, RunningSums, Unpadded, LineFits}
 use Rattle.arrival.proofs.Places.{reach, within}
 use Rattle.arrival.proofs.Windows.{ahead, less_is}

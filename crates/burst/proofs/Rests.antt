@@ -10,7 +10,7 @@ use lib.Dec.{ltb}
 use lib.IntN.{ℤ, pos}
 use lib.ListN.{length}
 use borrow.Author.Tests.{ltb-true}
-use Rattle.layout.specs.Answers.{Said, refused, accepted, waiting, Left, left, first_no}
+use Rattle.layout.specs.Answers.{Said, refused, accepted, waiting, left}
 use Rattle.layout.specs.Measure.{delay_of}
 use Rattle.layout.proofs.Questions.{first_yes}
 use Rattle.arrival.specs.Arrivals.{arrival_asks}

@@ -20,7 +20,7 @@ use Rattle.rule.specs.Sums.{Image}
 use Rattle.figures.specs.Measured.{pixels_above, pixels_below, measured, not_measured, figures_of}
 use Rattle.figures.specs.Off.{full_pixel, pixel_off}
 use Rattle.figures.proofs.Theorems.{off_within, full_without_drops}
-use Rattle.choices.specs.Choices.{with_drops, choice_count, Rating, rating_of, beats, unbeaten, rating, listed}
+use Rattle.choices.specs.Choices.{with_drops, choice_count, Rating, rating_of, unbeaten, rating, listed}
 use Rattle.choices.specs.Front.{Beaten, no_third, ChoiceOff}
 use Rattle.choices.proofs.Fronts.{size, Within, BeatenBy, front, as_good}
 use Rattle.choices.proofs.Thirds.{third_less, sums_same, above_less, below_less, accepted_less}

@@ -1,6 +1,6 @@
 -- What the steps of an arrival compute over all rectangles, and what they ask. The contract of an arrival uses none of this.
 -- Assumes nothing.
-use Rattle.std.specs.Prelude.{ℕ, ◌+◌, ◌-◌, ◌*◌, ◌%◌, ◌≤◌, ◌<◌, ◌≡◌, Bool, true, false, cond, ◌||◌, List, ◌++◌, T, eqb, ℤ, pos, ◌*ℤ◌, length, get_or, drop}
+use Rattle.std.specs.Prelude.{ℕ, ◌+◌, ◌*◌, ◌%◌, ◌≤◌, ◌<◌, ◌≡◌, Bool, true, false, cond, ◌||◌, List, ◌++◌, T, eqb, ℤ, pos, ◌*ℤ◌, length, get_or, drop}
 use Rattle.arith.specs.All.{all}
 use Rattle.arith.specs.Diff.{Diff}
 use Rattle.arith.specs.First.{first_not}

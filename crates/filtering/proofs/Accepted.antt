@@ -1,9 +1,9 @@
 -- A scan that is taken is within the limits.
 -- Assumes nothing.
-use Prim.Native.Nat.{ℕ, ◌*◌, ◌≤◌}
+use Prim.Native.Nat.{ℕ, ◌≤◌}
 use native.Mathlib.Omega.{arith}
 use native.Mathlib.Nat.{mul-le-mul}
-use mathlib.Core.Path.{◌≡◌, refl, sym, ap, ◌∙◌, subst}
+use mathlib.Core.Path.{◌≡◌, refl, sym, subst}
 use mathlib.Core.Bool.{Bool, true, false, cond}
 use lib.Dec.{leb, eqb, leb→le, T}
 use Rattle.rule.specs.Questions.{width_good}
@@ -12,7 +12,6 @@ use Rattle.pgm.specs.declared.Opening.{Opening}
 use Rattle.pgm.specs.declared.Opening.TheVariants.{Whole, More, Foreign, Bad, Large}
 use Rattle.pgm.specs.Raster.{sample_bytes}
 use Rattle.filtering.specs.declared.Job.{Job}
-use Rattle.filtering.specs.declared.Judged.{Judged}
 use Rattle.filtering.specs.declared.Judged.TheVariants.{Accepted, Faulty}
 use Rattle.filtering.specs.declared.Fault.{Fault}
 use Rattle.filtering.specs.declared.Fault.TheVariants.{Empty, CutHeader, NoMaxval, Maxval, Bits, Width}

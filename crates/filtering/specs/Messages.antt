@@ -2,7 +2,7 @@
 -- Assumes nothing.
 use Rattle.std.specs.Prelude.{ℕ, ◌+◌, min, List, [], ◌∷◌, ◌++◌}
 use Prim.Native.String.{String}
-use Rattle.text.specs.Ascii.{ascii, filled, line, lines}
+use Rattle.text.specs.Ascii.{filled, line, lines}
 use Rattle.refusals.specs.Sentences.{refusal_text}
 use Rattle.filtering.specs.declared.Message.{Message}
 use Rattle.filtering.specs.declared.Fault.{Fault}

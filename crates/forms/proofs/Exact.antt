@@ -7,13 +7,11 @@ use mathlib.Core.Bool.{Bool, true, false, cond, ◌&&◌}
 use mathlib.Core.List.{List, []}
 use lib.Dec.{T, leb, ltb}
 use lib.ListN.{get_or}
-use lib.IntN.{ℤ}
 use borrow.Author.Tests.{leb-true, ltb-true}
 use mir.Facts.{and_yes}
 use Rattle.arith.specs.Diff.{Diff}
 use Rattle.arith.specs.Twos.{fits_signed}
 use Rattle.arith.proofs.Bools.{bool_eq}
-use Rattle.layout.specs.declared.Rect.{Rect}
 use Rattle.limits.specs.Limits.{edges_good, rect_good}
 use Rattle.limits.proofs.Bounds.{edges}
 use Rattle.words.specs.Words.{minus, size, with_sign, integer}

@@ -1,6 +1,6 @@
 -- The column counts of an arrival, by the rows that its edges reach.
 -- Assumes nothing.
-use Prim.Native.Nat.{ℕ, ◌+◌, ◌*◌, ◌^◌, ◌≤◌, ◌<◌}
+use Prim.Native.Nat.{ℕ, ◌*◌, ◌^◌, ◌≤◌, ◌<◌}
 use native.Mathlib.Nat.{le_of_eq}
 use native.Mathlib.Omega.{arith}
 use mathlib.Core.Path.{◌≡◌, refl, sym, ap, ◌∙◌, subst}
@@ -11,7 +11,7 @@ use lib.IntN.{ℤ, pos}
 use lib.ListN.{length, get_or, drop}
 use lib.Pow.{pow_mono}
 use Rattle.arith.specs.All.{all}
-use Rattle.arith.specs.Tab.{tab, grid}
+use Rattle.arith.specs.Tab.{tab}
 use Rattle.arith.proofs.Alls.{all_cong, all_at}
 use Rattle.arith.proofs.Grids.{grid_cong, grid_at_lem}
 use Rattle.arith.proofs.Ints.{diff_pos_part}

@@ -1,13 +1,12 @@
 -- The filtered row of an arrival, from the counts in the store.
 -- Assumes nothing.
-use Prim.Native.Nat.{ℕ, ◌+◌, ◌-◌, ◌^◌, ◌≤◌, ◌<◌}
+use Prim.Native.Nat.{ℕ, ◌+◌, ◌-◌, ◌^◌, ◌≤◌}
 use native.Mathlib.Omega.{arith}
-use mathlib.Core.Path.{◌≡◌, refl, sym, ap, ◌∙◌, subst}
-use mathlib.Core.Bool.{true}
+use mathlib.Core.Path.{◌≡◌, sym, ap, ◌∙◌, subst}
 use mathlib.Core.List.{List, ◌++◌}
 use lib.Dec.{T}
-use lib.IntN.{ℤ, pos}
-use lib.ListN.{length, drop}
+use lib.IntN.{ℤ}
+use lib.ListN.{drop}
 use lib.Pow.{pow_mono}
 use lib.Seq.{drop-drop}
 use Rattle.arith.specs.Tab.{tab, zeroed}
@@ -17,7 +16,7 @@ use Rattle.limits.proofs.Bounds.{RectBounds, rect_bounds}
 use Rattle.levels.proofs.Ranks.{ranked_cong}
 use Rattle.histograms.specs.declared.Arrival.{Arrival}
 use Rattle.histograms.specs.declared.windows.Span.{Span}
-use Rattle.histograms.specs.Spans.{span_of, slid_to, Zeros, SpanFits, Holds, Written}
+use Rattle.histograms.specs.Spans.{span_of, Zeros, SpanFits, Holds, Written}
 use Rattle.histograms.specs.Parts.{ShowFits, Shown}
 use Rattle.histograms.proofs.Zero.{fewer_zeros}
 use Rattle.histograms.proofs.Slides.{slid_none, slid_window}

@@ -15,7 +15,7 @@ use borrow.Author.Tests.{lt-ltb, le-ltb}
 use Rattle.arith.specs.Tab.{tab}
 use Rattle.arith.proofs.Ints.{sub_low, sub_high}
 use Rattle.arith.proofs.Parts.{line_end_lem, part, part-tab}
-use Rattle.arith.proofs.Passes.{Pass, none_done, one_more, pass_length, pass_again}
+use Rattle.arith.proofs.Passes.{none_done, one_more, pass_length, pass_again}
 use Rattle.arith.proofs.Tabs.{length-tab, tab_cong}
 use Rattle.levels.specs.Levels.{ranked}
 use Rattle.histograms.specs.declared.windows.Span.{Span}

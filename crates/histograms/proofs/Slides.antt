@@ -1,6 +1,6 @@
 -- The counts of a window as it slides along a row.
 -- Assumes nothing.
-use Prim.Native.Nat.{ℕ, suc, ◌+◌, ◌-◌, ◌*◌, ◌≤◌, ◌<◌, zero-le}
+use Prim.Native.Nat.{ℕ, suc, ◌+◌, ◌-◌, ◌≤◌, ◌<◌, zero-le}
 use native.Mathlib.Nat.{mul-le-mul, le_refl, le_of_eq}
 use native.Mathlib.Omega.{arith}
 use mathlib.Core.Path.{◌≡◌, refl, sym, ap, ◌∙◌}
@@ -10,7 +10,6 @@ use lib.Dec.{T, ltb, ltb→lt}
 use lib.IntN.{ℤ, pos, negsuc, sub_ℕ}
 use lib.ListN.{length, get_or, take, drop, take-append-drop}
 use lib.Seq.{get_or-take, length-take-le}
-use Rattle.arith.specs.Sum.{sum}
 use Rattle.arith.specs.Part.{pos_part, neg_part}
 use Rattle.arith.specs.Tab.{tab}
 use Rattle.arith.proofs.Ints.{diff_pos, diff_sub, diff_add, diff_eq, sub_low, diff_pos_part, diff_neg_part}

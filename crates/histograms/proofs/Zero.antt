@@ -7,7 +7,7 @@ use mathlib.Core.Path.{◌≡◌, ◌∙◌, sym}
 use mathlib.Core.Bool.{Bool, true, false, not}
 use mathlib.Core.List.{List}
 use lib.Dec.{T, ltb, ltb→lt, nltb→le}
-use lib.ListN.{length, take, replicate, length-replicate, get_or-replicate, get_or, get_or-eq_default}
+use lib.ListN.{take, replicate, length-replicate, get_or-replicate, get_or, get_or-eq_default}
 use Rattle.arith.specs.Tab.{tab}
 use Rattle.arith.proofs.Parts.{first_tab}
 use Rattle.arith.proofs.Tabs.{tab_cong}

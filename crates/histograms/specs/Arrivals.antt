@@ -1,6 +1,6 @@
 -- What the arrival of a row does to a ranked window: the step described, on any stores.
 -- Assumes nothing.
-use Rattle.std.specs.Prelude.{ℕ, ◌+◌, ◌*◌, ◌%◌, ◌^◌, ◌≤◌, ◌≡◌, Bool, true, false, cond, List, [], ◌∷◌, ◌++◌, ltb, length, drop, ℤ, pos, negsuc, ◌+ℤ◌, ◌-ℤ◌}
+use Rattle.std.specs.Prelude.{ℕ, ◌*◌, ◌%◌, ◌^◌, ◌≤◌, ◌≡◌, Bool, true, false, cond, List, [], ◌∷◌, ◌++◌, ltb, length, drop, ℤ, pos, negsuc, ◌+ℤ◌, ◌-ℤ◌}
 use Rattle.arith.specs.All.{all}
 use Rattle.arith.specs.Part.{pos_part}
 use Rattle.arith.specs.Tab.{tab, grid, paste, zeroed}

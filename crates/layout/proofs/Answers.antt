@@ -11,7 +11,7 @@ use Rattle.layout.specs.declared.Answer.{Answer}
 use Rattle.layout.specs.declared.Answer.TheVariants.{Row, Waiting, Refused as RowRefused}
 use Rattle.layout.specs.declared.Closing.{Closing}
 use Rattle.layout.specs.declared.Closing.TheVariants.{Row as LateRow, Waiting as StillWaiting, Done, Refused as StepRefused}
-use Rattle.layout.specs.Answers.{Said, refused, accepted, said, answer_said, closing_said}
+use Rattle.layout.specs.Answers.{refused, accepted, said, answer_said, closing_said}
 
 -- refusals that say the same have the same number and place
 pub same_refusal : {A : Type 0} (f : (number place : ℕ) → A) {n p m q : ℕ} → refused n p ≡ refused m q → f n p ≡ f m q

@@ -1,6 +1,6 @@
 -- What a table says, and the struct that holds it.
 -- Assumes nothing.
-use Rattle.std.specs.Prelude.{ℕ, List, [], ◌∷◌, ◌++◌, length, get_or, ℤ, pos}
+use Rattle.std.specs.Prelude.{ℕ, List, [], length, get_or, pos}
 use Rattle.arith.specs.Tab.{tab}
 use Rattle.layout.specs.declared.Rect.{Rect}
 use Rattle.layout.specs.declared.Table.{Table}

@@ -1,6 +1,6 @@
 -- The figures of a rectangle and of a table.
 -- Assumes nothing.
-use Rattle.std.specs.Prelude.{ℕ, ◌+◌, ◌-◌, ◌*◌, ◌^◌, ℤ, ◌-ℤ◌}
+use Rattle.std.specs.Prelude.{ℕ, ◌+◌, ◌-◌, ◌*◌, ◌^◌, ◌-ℤ◌}
 use Rattle.arith.specs.Part.{pos_part}
 use Rattle.arith.specs.Log.{log2up}
 use Rattle.arith.specs.Largest.{largest}

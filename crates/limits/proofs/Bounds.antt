@@ -1,18 +1,17 @@
 -- What question 8 says of a rectangle: its edges in a frame of 16, and how many rows and columns it covers.
 -- Assumes nothing.
-use Prim.Native.Nat.{ℕ, suc, ◌+◌, ◌-◌, ◌*◌, ◌^◌, ◌≤◌, ◌<◌}
+use Prim.Native.Nat.{ℕ, ◌+◌, ◌-◌, ◌≤◌, ◌<◌}
 use native.Mathlib.Omega.{arith}
-use native.Mathlib.Nat.{mul-le-mul}
-use mathlib.Core.Path.{◌≡◌, refl, sym, subst}
-use mathlib.Core.Bool.{Bool, true, ◌&&◌}
-use lib.Dec.{T, leb, leb→le, le→leb}
+use mathlib.Core.Path.{◌≡◌, refl}
+use mathlib.Core.Bool.{◌&&◌}
+use lib.Dec.{T, leb→le, le→leb}
 use lib.IntN.{ℤ, pos, negsuc, ◌-ℤ◌}
-use lib.Signed.{le_z, lt_z, mag, ◌≤ℤ◌, ◌<ℤ◌}
+use lib.Signed.{le_z, lt_z, ◌≤ℤ◌}
 use mir.Facts.{and_yes}
 use Rattle.arith.specs.Diff.{Diff}
 use Rattle.arith.specs.Part.{pos_part}
 use Rattle.arith.specs.Twos.{fits_signed}
-use Rattle.arith.proofs.Ints.{diff_parts, diff_pos, diff_minus, diff_pos_part, diff_shift, le_diff, lt_diff}
+use Rattle.arith.proofs.Ints.{diff_pos, diff_minus, diff_pos_part, le_diff, lt_diff}
 use Rattle.arith.proofs.Words.{mag_fits}
 use Rattle.layout.specs.declared.Rect.{Rect}
 use Rattle.limits.specs.Limits.{edges_good, rect_good}

@@ -1,12 +1,12 @@
 -- Question 8 in biased numbers: l is the lead + 128, t the trail + 128.
 -- Assumes nothing.
-use Prim.Native.Nat.{ℕ, ◌+◌, ◌≤◌, ◌<◌}
+use Prim.Native.Nat.{ℕ, ◌+◌}
 use native.Mathlib.Omega.{arith}
 use mathlib.Core.Path.{◌≡◌, refl, ap₂, ◌∙◌}
-use mathlib.Core.Bool.{Bool, ◌&&◌}
-use lib.Dec.{T, leb, ltb, leb→le, le→leb, ltb→lt, lt→ltb}
+use mathlib.Core.Bool.{◌&&◌}
+use lib.Dec.{leb, ltb, leb→le, le→leb, ltb→lt, lt→ltb}
 use lib.IntN.{ℤ, pos, negsuc}
-use lib.Signed.{le_z, lt_z}
+use lib.Signed.{le_z}
 use Rattle.arith.specs.Diff.{Diff}
 use Rattle.arith.proofs.Bools.{bool_eq}
 use Rattle.arith.proofs.Ints.{diff_pos, diff_parts, diff_le_z, diff_lt_z}

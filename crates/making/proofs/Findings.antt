@@ -3,7 +3,7 @@
 use Prim.Native.Nat.{ℕ, suc, ◌+◌, ◌-◌, ◌≤◌, ◌<◌}
 use native.Mathlib.Omega.{arith}
 use mathlib.Core.Path.{◌≡◌, refl, sym, ap, ◌∙◌}
-use mathlib.Core.Bool.{Bool, cond}
+use mathlib.Core.Bool.{cond}
 use mathlib.Core.List.{List, [], ◌∷◌}
 use lib.ListN.{length, take, drop}
 use borrow.Author.Tests.{eq-eqb, ne_eqb}
@@ -11,7 +11,7 @@ use Rattle.text.specs.Ascii.{line_length, after_line}
 use Rattle.words.specs.Words.{words_of, lines_of}
 use Rattle.words.proofs.Lines.{lines_on, lines_none, lines_forth}
 use Rattle.forms.specs.Forms.{kind_of}
-use Rattle.making.specs.Making.{Line, line, of_kind}
+use Rattle.making.specs.Making.{line, of_kind}
 use Rattle.making.specs.Steps.{Finds}
 
 module _ (kind place : ℕ) (words : List (List ℕ)) (lines : List (List (List ℕ))) where

@@ -10,13 +10,12 @@ use lib.ListN.{length}
 use borrow.Author.Tests.{leb-true, le-leb}
 use mir.Facts.{and_yes}
 use Rattle.arith.specs.Twos.{fits_signed}
-use Rattle.layout.specs.declared.Rect.{Rect}
 use Rattle.layout.specs.Contents.{Contents, table_of}
 use Rattle.layout.specs.Answers.{Question, asks}
 use Rattle.layout.proofs.Questions.{AllYes}
 use Rattle.limits.specs.Limits.{drops_good, rect_good, value_good, fitting}
 use Rattle.limits.proofs.Asked.{HeadTests, word_bounds}
-use Rattle.table.proofs.Complete.{Fine, Fines, Shaped}
+use Rattle.table.proofs.Complete.{Fines, Shaped}
 use Rattle.table.proofs.Structs.{contents-table_of}
 use Rattle.words.specs.Words.{lines_of}
 use Rattle.forms.specs.Forms.{kind_of, integer_at, rect_in, line_asks}

@@ -3,7 +3,7 @@
 use Prim.Native.Nat.{ℕ, zero, suc, ◌+◌, ◌-◌}
 use native.Mathlib.Omega.{arith}
 use mathlib.Core.Path.{◌≡◌, refl, sym, ap, ◌∙◌}
-use mathlib.Core.Bool.{Bool, cond}
+use mathlib.Core.Bool.{cond}
 use mathlib.Core.List.{List, [], ◌∷◌}
 use lib.Dec.{eqb}
 use lib.ListN.{length, get_or, take, drop}
@@ -11,7 +11,7 @@ use borrow.Author.Tests.{eq-eqb, ne_eqb, le-leb, lt-leb}
 use Rattle.layout.specs.declared.Verdict.TheVariants.{Accepted, Refused}
 use Rattle.layout.specs.Answers.{verdict}
 use Rattle.words.specs.Words.{ended, words_from, words_of, lines_of}
-use Rattle.making.specs.Making.{Line, line, of_kind, lines_with, head_line, once_asks}
+use Rattle.making.specs.Making.{line, of_kind, lines_with, head_line, once_asks}
 use Rattle.making.specs.Steps.{Finds}
 
 module _ {text : List ℕ} {kind from place at start end next : ℕ} (f : Finds text kind from place at start end next) where

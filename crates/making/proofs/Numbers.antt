@@ -11,11 +11,10 @@ use mir.Facts.{and_yes}
 use Rattle.arith.proofs.Bools.{bool_eq}
 use Rattle.layout.specs.declared.Verdict.{Verdict}
 use Rattle.layout.specs.declared.Verdict.TheVariants.{Accepted, Refused}
-use Rattle.layout.specs.Contents.{Contents}
 use Rattle.layout.specs.Answers.{verdict}
-use Rattle.layout.proofs.Questions.{on_verdict, AllYes}
+use Rattle.layout.proofs.Questions.{on_verdict}
 use Rattle.limits.specs.Limits.{bits_good, drops_good, word_good, head_asks}
-use Rattle.making.specs.Making.{Line, numbers_ask, contents_of, head_line}
+use Rattle.making.specs.Making.{numbers_ask, contents_of, head_line}
 use Rattle.making.specs.Steps.{held_at, blamed_of}
 
 -- ---- the tests

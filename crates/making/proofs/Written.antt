@@ -1,6 +1,6 @@
 -- The table of a text is within the limits, so that it is written.
 -- Assumes nothing.
-use Prim.Native.Nat.{ℕ, ◌+◌, ◌≤◌}
+use Prim.Native.Nat.{ℕ, ◌≤◌}
 use native.Mathlib.Omega.{arith}
 use mathlib.Core.Path.{◌≡◌, refl, sym, ap, ◌∙◌, subst}
 use mathlib.Core.Bool.{Bool, true, false, cond}
@@ -11,7 +11,7 @@ use lib.IntN.{pos}
 use mir.Facts.{yes_and}
 use Rattle.arith.proofs.Bools.{true_of}
 use Rattle.layout.specs.Contents.{Contents, table_of}
-use Rattle.layout.specs.Answers.{Said, refused as refusal, accepted, Wrote, wrote, Question, asks}
+use Rattle.layout.specs.Answers.{refused as refusal, accepted, wrote, asks}
 use Rattle.layout.proofs.Answers.{same_natural}
 use Rattle.layout.proofs.Questions.{AllYes, first_yes}
 use Rattle.limits.specs.Limits.{value_good, shaped, within, acceptable}

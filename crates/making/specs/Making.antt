@@ -1,6 +1,6 @@
 -- A table's text: what is asked of it, the table that it says, and what the call leaves.
 -- Assumes nothing.
-use Rattle.std.specs.Prelude.{ℕ, suc, ◌+◌, ◌-◌, Bool, cond, List, [], ◌∷◌, ◌++◌, leb, eqb, length, get_or, drop, pos}
+use Rattle.std.specs.Prelude.{ℕ, suc, ◌+◌, ◌-◌, cond, List, [], ◌∷◌, ◌++◌, leb, eqb, length, get_or, drop, pos}
 use Rattle.layout.specs.declared.Rect.{Rect}
 use Rattle.layout.specs.Contents.{Contents}
 use Rattle.layout.specs.Answers.{refused as refusal, accepted, Question, asks, first_no, Wrote, wrote}

@@ -1,6 +1,6 @@
 -- A call that is refused with 14.
 -- Assumes nothing.
-use Rattle.std.specs.Prelude.{ℕ, ◌≡◌, List, ℤ}
+use Rattle.std.specs.Prelude.{◌≡◌, List, ℤ}
 use Rattle.layout.specs.Answers.{Left}
 
 -- what it leaves: it says so, and the state, its stores and the output are what they were

@@ -1,22 +1,17 @@
 -- The mapping from pixels to samples of the picture: its value from a raised pixel, its order, and its exactness.
 -- Assumes nothing.
-use Prim.Native.Nat.{ℕ, suc, ◌+◌, ◌-◌, ◌*◌, ◌/◌, ◌%◌, ◌^◌, ◌≤◌, ◌<◌, min}
+use Prim.Native.Nat.{ℕ, suc, ◌+◌, ◌-◌, ◌*◌, ◌/◌, ◌^◌, ◌≤◌, ◌<◌, min}
 use native.Mathlib.Omega.{arith}
-use native.Mathlib.Nat.{div-lt_iff_lt-mul}
-use mathlib.Core.Path.{◌≡◌, refl, sym, ap, ap₂, ◌∙◌, subst}
-use mathlib.Core.Bool.{Bool, true}
+use mathlib.Core.Path.{◌≡◌, sym, ap, ◌∙◌, subst}
+use mathlib.Core.Bool.{true}
 use mathlib.Core.List.{List, [], ◌∷◌, ◌++◌, append_assoc}
 use mir.Facts.{and_yes}
 use lib.Dec.{T, leb, leb→le}
 use lib.ListN.{length, get_or, set, drop, length-append}
 use lib.Seq.{drop-cons, set_at}
-use lib.IntN.{ℤ, pos, ◌+ℤ◌}
-use lib.Signed.{◌≤ℤ◌}
-use lib.Pow.{pow_pos, pow-add, shr_mono}
+use lib.IntN.{ℤ}
 use Rattle.arith.specs.Diff.{Diff}
-use Rattle.arith.specs.Part.{pos_part}
 use Rattle.arith.specs.Tab.{tab, grid}
-use Rattle.arith.specs.Twos.{fits_signed}
 use Rattle.arith.proofs.Ints.{diff_pos, diff_add, diff_pos_part}
 use Rattle.arith.proofs.Passes.{grid-suc, length-grid}
 use Rattle.pgm.specs.Shade.{shade, word_good}

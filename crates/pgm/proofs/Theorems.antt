@@ -1,15 +1,15 @@
 -- What the mapping from pixels to the picture promises, and headers read as the grammar says.
 -- Assumes nothing.
-use Prim.Native.Nat.{ℕ, ◌+◌, ◌-◌, ◌*◌, ◌/◌, ◌^◌, ◌≤◌, ◌<◌, min}
+use Prim.Native.Nat.{ℕ, ◌+◌, ◌-◌, ◌/◌, ◌^◌, ◌≤◌, ◌<◌}
 use native.Mathlib.Omega.{arith}
-use native.Mathlib.Nat.{div-lt_iff_lt-mul, lt_of_lt_of_le}
-use mathlib.Core.Path.{◌≡◌, refl, sym, ap, ◌∙◌, subst}
+use native.Mathlib.Nat.{div-lt_iff_lt-mul}
+use mathlib.Core.Path.{◌≡◌, refl, ap, ◌∙◌}
 use lib.Dec.{T}
 use lib.IntN.{ℤ, pos, ◌+ℤ◌}
 use lib.Signed.{◌≤ℤ◌}
 use lib.Pow.{pow_pos, pow-add, pow_mono, shr_mono}
 use Rattle.arith.specs.Diff.{Diff}
-use Rattle.arith.specs.Part.{pos_part, neg_part}
+use Rattle.arith.specs.Part.{pos_part}
 use Rattle.arith.specs.Twos.{fits_signed}
 use Rattle.arith.proofs.Bias.{Raised, raised}
 use Rattle.arith.proofs.Ints.{diff_pos, diff_parts, diff_add, diff_pos_part, le_diff}

@@ -2,7 +2,7 @@
 -- Assumes nothing.
 use Prim.Native.Nat.{ℕ, suc, ◌+◌, ◌-◌, ◌*◌, ◌≤◌, ◌<◌, min}
 use native.Mathlib.Omega.{arith}
-use mathlib.Core.Path.{◌≡◌, refl, sym, ap, ◌∙◌, subst}
+use mathlib.Core.Path.{◌≡◌, refl, sym, ap, subst}
 use mir.Facts.{and_yes}
 use lib.Dec.{T, leb, ltb, eqb, leb→le, ltb→lt, nltb→le}
 use mathlib.Core.Bool.{Bool, true, false, cond, not}

@@ -1,6 +1,6 @@
 -- The header of a binary PGM: `P5`, three numbers, each after white space and comments, and one byte of white space.
 -- Assumes nothing.
-use Rattle.std.specs.Prelude.{ℕ, suc, ◌+◌, ◌-◌, ◌*◌, Bool, true, false, cond, not, ◌&&◌, ◌||◌, List, [], ◌∷◌, leb, eqb, length, get_or, drop}
+use Rattle.std.specs.Prelude.{ℕ, suc, ◌+◌, ◌-◌, ◌*◌, Bool, false, cond, not, ◌&&◌, ◌||◌, List, [], ◌∷◌, leb, eqb, length, get_or, drop}
 use Rattle.pgm.specs.declared.Opening.{Opening}
 use Rattle.pgm.specs.declared.Opening.TheVariants.{Whole, More, Foreign, Bad, Large}
 use Rattle.pgm.specs.declared.parsing.Part.{Part}

@@ -5,7 +5,6 @@ use Rattle.arith.specs.Sum.{sum, sum_ℤ}
 use Rattle.arith.specs.All.{all}
 use Rattle.arith.specs.First.{first_not}
 use Rattle.arith.specs.Tab.{tab}
-use Rattle.arith.specs.Part.{pos_part, neg_part}
 use Rattle.arith.specs.Twos.{signed, fits_signed}
 use Rattle.arith.specs.Floor.{floor_div}
 use Rattle.layout.specs.Measure.{rows_of, cols_of, loss_figure}

@@ -1,6 +1,6 @@
 -- The marked strips of docs/RULES.md, all of them.
 -- Assumes nothing.
-use Rattle.std.specs.Prelude.{ℕ, ◌+◌, ◌/◌, ◌%◌, Bool, true, false, ◌&&◌, List, [], ◌∷◌, ◌++◌, eqb, length, get_or, replicate, ℤ, pos, negsuc}
+use Rattle.std.specs.Prelude.{ℕ, ◌/◌, ◌%◌, Bool, true, false, ◌&&◌, List, [], ◌∷◌, ◌++◌, eqb, length, get_or, replicate, ℤ, pos, negsuc}
 use Rattle.std.specs.Int.Signed.{le_z}
 use Rattle.arith.specs.All.{all}
 use Rattle.layout.specs.Answers.{Said}

@@ -7,10 +7,10 @@ use mathlib.Core.List.{List, [], ◌∷◌}
 use lib.Dec.{leb}
 use lib.IntN.{ℤ}
 use lib.ListN.{length}
-use Rattle.layout.specs.declared.Verdict.TheVariants.{Accepted, Refused}
+use Rattle.layout.specs.declared.Verdict.TheVariants.{Accepted}
 use Rattle.layout.specs.Answers.{refused, done, asks, first_no, verdict, Left, left}
 use Rattle.layout.proofs.Questions.{on_verdict, first_verdict, first_append, first_map}
-use Rattle.histograms.specs.Arrivals.{Counting, arrival_asks, Leaves, leaves, arrive_of}
+use Rattle.histograms.specs.Arrivals.{Counting, arrival_asks, Leaves, arrive_of}
 use Rattle.rank.specs.declared.RankScan.{RankScan}
 use Rattle.rank.specs.Calls.{World, world, rank_delay, agrees, lent_good, row_arrival, due_said, taken_in, row_in, row_asks, row_of, step_in, closing_of, step_of}
 

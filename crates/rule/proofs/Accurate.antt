@@ -1,13 +1,11 @@
 -- Demand 3's three parts, for any table, scan and place.
 -- Assumes nothing.
-use Prim.Native.Nat.{ℕ, zero, suc, ◌+◌, ◌-◌, ◌*◌, ◌%◌, ◌^◌, ◌≤◌, ◌<◌}
+use Prim.Native.Nat.{ℕ, zero, suc, ◌+◌, ◌*◌, ◌^◌, ◌≤◌}
 use native.Mathlib.Nat.{mul-le-mul_left}
 use native.Mathlib.Omega.{arith}
-use mathlib.Core.Path.{◌≡◌, refl, sym, ap, ◌∙◌}
-use mathlib.Core.Logic.{◌↔◌}
-use lib.IntN.{ℤ, pos, neg_ℤ, ◌-ℤ◌, ◌*ℤ◌}
+use mathlib.Core.Path.{◌≡◌, refl, ap, ◌∙◌}
+use lib.IntN.{ℤ, pos, ◌-ℤ◌, ◌*ℤ◌}
 use lib.Pow.{pow_pos}
-use lib.Signed.{◌≤ℤ◌}
 use Rattle.arith.specs.Sum.{sum, sum_ℤ}
 use Rattle.arith.specs.Part.{pos_part, neg_part}
 use Rattle.arith.specs.Diff.{Diff}
@@ -17,7 +15,7 @@ use Rattle.layout.specs.declared.Rect.{Rect}
 use Rattle.layout.specs.declared.Table.{Table}
 use Rattle.layout.specs.Contents.{rect}
 use Rattle.layout.specs.Measure.{rows_of, cols_of, loss_figure}
-use Rattle.rule.specs.Sums.{Image, covered, full_sum, column_sum, window_sum, scaled_sum}
+use Rattle.rule.specs.Sums.{Image, full_sum, scaled_sum}
 use Rattle.rule.specs.Pixels.{full_value, cut_value}
 use Rattle.rule.specs.Accuracy.{NothingDropped, loss_under, RectAccuracy, Accuracy}
 use Rattle.rule.proofs.Dropped.{sample_rests, column_rests, window_rest, dropped, full_dropped, dropped_most}

@@ -2,11 +2,10 @@
 -- Assumes nothing.
 use Prim.Native.Nat.{ℕ, suc, ◌+◌, ◌*◌, ◌/◌, ◌^◌, ◌≤◌, ◌<◌}
 use native.Mathlib.Omega.{arith}
-use mathlib.Core.Path.{◌≡◌, refl, sym, ap, ◌∙◌}
+use mathlib.Core.Path.{◌≡◌, ap}
 use lib.IntN.{ℤ, pos, ◌+ℤ◌, ◌*ℤ◌}
 use lib.Signed.{◌≤ℤ◌}
-use Rattle.arith.specs.Part.{pos_part, neg_part}
-use Rattle.arith.specs.Diff.{Diff}
+use Rattle.arith.specs.Part.{pos_part}
 use Rattle.arith.specs.Floor.{floor_div}
 use Rattle.arith.proofs.Sums.{sum_cong}
 use Rattle.arith.proofs.Maxima.{le-largest}

@@ -1,6 +1,6 @@
 -- Demand 3: how far a cut sum is from the full one, and a cut value from the full value.
 -- Assumes nothing.
-use Rattle.std.specs.Prelude.{ℕ, suc, ◌+◌, ◌*◌, ◌%◌, ◌^◌, ◌≤◌, ◌<◌, ◌≡◌, ◌↔◌, ℤ, pos, neg_ℤ, ◌-ℤ◌, ◌≤ℤ◌}
+use Rattle.std.specs.Prelude.{ℕ, ◌+◌, ◌*◌, ◌%◌, ◌^◌, ◌≤◌, ◌<◌, ◌≡◌, ◌↔◌, ℤ, pos, neg_ℤ, ◌-ℤ◌, ◌≤ℤ◌}
 use Rattle.arith.specs.Sum.{sum}
 use Rattle.arith.specs.Part.{pos_part, neg_part}
 use Rattle.layout.specs.declared.Rect.{Rect}

@@ -2,7 +2,7 @@
 -- Assumes nothing.
 use Rattle.std.specs.Prelude.{ℕ, zero, suc, ◌-◌, ◌*◌, ◌≤◌, ◌≡◌, cond, List, [], ◌∷◌, ◌++◌, leb, eqb, length, get_or, take, drop}
 use Prim.Native.String.{String, [] as none, ◌∷◌ as ◌then◌}
-use Prim.Native.Char.{Char, code}
+use Prim.Native.Char.{code}
 use Rattle.text.specs.Text.{decimal}
 
 -- the bytes of a quoted text in ASCII

@@ -31,7 +31,7 @@ fn only(err: String) -> Wrote {
 }
 
 fn run(program: &str, words: &[&str], input: &[u8]) -> Result<Wrote, String> {
-    let path = Path::new(env!("CARGO_MANIFEST_DIR")).join("../target/bin");
+    let path = Path::new(env!("CARGO_MANIFEST_DIR")).join("../build/bin");
     let mut child = Command::new(path.join(program))
         .args(words)
         .stdin(Stdio::piped())

@@ -6,7 +6,7 @@ use Rattle.arith.proofs.Parts.{part_is, part_long, part_back}
 use Rattle.burst.proofs.Rests.{Rest, all_fed, place_room, ends, goes_on, row_refused}
 use Prim.Native.Nat.{ℕ, ◌+◌, ◌-◌, ◌*◌, ◌≤◌, ◌<◌}
 use mathlib.Core.Path.{◌≡◌, refl, sym, ap, ap₂, subst, ◌∙◌}
-use mathlib.Core.Bool.{true, false}
+use mathlib.Core.Bool.{false}
 use mathlib.Core.List.{List}
 use lib.IntN.{ℤ}
 use lib.ListN.{length}

@@ -4,7 +4,6 @@ use mathlib.Core.Path.{◌≡◌, refl, ap, ◌∙◌}
 use mathlib.Core.Bool.{Bool, true, false, cond}
 use mir.Val.{bool_byte}
 use Rattle.arith.proofs.Passes.{none_done, one_more}
-use Rattle.choices.specs.Choices.{unbeaten}
 use Rattle.choices.proofs.marks.mark_each.Goals as goal
 
 as_byte : (b : Bool) → bool_byte b ≡ cond b 1 0

@@ -3,7 +3,7 @@
 use mathlib.Core.Path.{refl, ◌≡◌}
 use borrow.Author.Tests.{eq-eqb, ne_eqb}
 use Rattle.layout.specs.declared.Verdict.{Verdict}
-use mathlib.Core.Bool.{true, false}
+use mathlib.Core.Bool.{true}
 use Prim.Native.Nat.{ℕ}
 use lib.Dec.{eqb}
 use Rattle.layout.specs.declared.Verdict.TheVariants.{Accepted, Refused}

@@ -1,6 +1,6 @@
 -- Byte after byte is moved down; the next one is never overwritten before.
 -- Assumes nothing.
-use Prim.Native.Nat.{suc, ◌+◌, ◌-◌, ◌≤◌}
+use Prim.Native.Nat.{◌+◌, ◌-◌, ◌≤◌}
 use mathlib.Core.Path.{◌≡◌}
 use lib.ListN.{length}
 use Rattle.filtering.proofs.Stores.{so_far}

@@ -1,6 +1,5 @@
 -- `grid::entry_sums`: each entry is the one before it and a difference; the invariant is the entry and the two sums so far.
 -- Assumes nothing.
-use Prim.Native.Nat.{suc}
 use native.Mathlib.Numerals.{add-one}
 use native.Mathlib.Omega.{arith}
 use mathlib.Core.Path.{refl}

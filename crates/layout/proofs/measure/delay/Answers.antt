@@ -1,7 +1,7 @@
 -- The largest lead row so far is carried over the rectangles; the invariant is `largest` of those passed.
 use Rattle.layout.specs.Contents.{no_rect, rect}
 use mathlib.Core.Path.{ap, ◌∙◌, sym, refl, ◌≡◌}
-use lib.ListN.{length, length-map, get_or-eq_default}
+use lib.ListN.{length, get_or-eq_default}
 use Rattle.layout.specs.Measure.{delay_of}
 use Rattle.arith.proofs.Maxima.{largest-suc, largest_beyond}
 use native.Mathlib.Numerals.{add-one}

@@ -3,7 +3,6 @@
 use Prim.Native.Nat.{◌-◌}
 use mathlib.Core.Path.{◌≡◌}
 use lib.ListN.{length}
-use Rattle.arith.specs.Sum.{sum}
 use Rattle.levels.specs.Fits.{BlocksPassed}
 use Rattle.levels.proofs.finding.blocks.Given as goal
 

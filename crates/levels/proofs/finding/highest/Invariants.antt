@@ -1,6 +1,6 @@
 -- `levels::highest` goes down from the top: the levels passed are not counted, so the highest of those left is the highest of all.
 -- Assumes nothing.
-use Prim.Native.Nat.{suc, ◌≤◌}
+use Prim.Native.Nat.{◌≤◌}
 use mathlib.Core.Path.{◌≡◌}
 use lib.ListN.{length}
 use Rattle.levels.specs.Levels.{count_of, highest}

@@ -9,7 +9,6 @@ use Rattle.arith.specs.First.{first_not}
 use Rattle.arith.proofs.Sums.{sum-suc, sum_bound}
 use Rattle.levels.specs.Levels.{count_of, up_to}
 use native.Mathlib.Numerals.{add-one}
-use mathlib.Core.Logic.{⊎_elim}
 use Rattle.arith.proofs.Firsts.{first_most}
 use Rattle.levels.proofs.Ranks.{passes, stays}
 use borrow.Author.Rules.{rules}

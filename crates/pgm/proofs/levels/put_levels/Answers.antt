@@ -7,7 +7,6 @@ use lib.ListN.{get_or}
 use lib.IntN.{pos}
 use borrow.Author.Rules.{rules}
 use Rattle.arith.proofs.Passes.{none_done, one_more}
-use Rattle.pgm.specs.Shade.{level_byte}
 use Rattle.pgm.proofs.levels.put_levels.Goals as goal
 
 pub loop-k-init : goal.loop-k-init

@@ -2,9 +2,6 @@
 -- Assumes nothing.
 use Rattle.pgm.proofs.Tokens.{gap_on, gap_ends, gap_none}
 use native.Mathlib.Numerals.{add-one}
-use Rattle.pgm.specs.Grammar.{in_gap}
-use Prim.Native.Nat.{suc}
-use mathlib.Core.Bool.{true, false}
 use mathlib.Core.Path.{sym, ◌∙◌}
 use native.Mathlib.Omega.{arith}
 use Rattle.pgm.proofs.lexing.gap.Goals as goal

@@ -1,7 +1,7 @@
 -- A look at each byte: what is left of the gap is the same, one byte shorter.
 -- Assumes nothing.
 use Rattle.pgm.specs.Grammar.{gap}
-use Prim.Native.Nat.{suc, ◌+◌, ◌-◌}
+use Prim.Native.Nat.{◌+◌, ◌-◌}
 use mathlib.Core.Bool.{false}
 use mathlib.Core.Path.{◌≡◌}
 use lib.ListN.{length, drop}

@@ -1,7 +1,6 @@
 -- A look at each byte: what the digits so far spell, carried on over the rest, is the same number.
 -- Assumes nothing.
 use Rattle.pgm.proofs.Tokens.{digit_from, number_on, number_ends, number_none, capped}
-use Rattle.pgm.specs.Grammar.{digit}
 use native.Mathlib.Numerals.{add-one}
 use native.Mathlib.Omega.{arith}
 use Prim.Native.Nat.{suc}

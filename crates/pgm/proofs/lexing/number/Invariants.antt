@@ -1,7 +1,7 @@
 -- A look at each byte: what the digits so far spell, carried on over the rest, is the same number.
 -- Assumes nothing.
 use Rattle.pgm.specs.Grammar.{number, digits}
-use Prim.Native.Nat.{suc, ◌+◌, ◌-◌, ◌≤◌, min}
+use Prim.Native.Nat.{◌+◌, ◌-◌, ◌≤◌, min}
 use lib.ListN.{length, drop}
 use mathlib.Core.Path.{◌≡◌}
 use Rattle.pgm.proofs.lexing.number.Given as goal

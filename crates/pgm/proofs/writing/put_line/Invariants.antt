@@ -1,6 +1,6 @@
 -- Pixel after pixel is put: what stands is the line's first cells.
 -- Assumes nothing.
-use Prim.Native.Nat.{suc, ◌-◌, ◌*◌, ◌≤◌}
+use Prim.Native.Nat.{◌-◌, ◌*◌, ◌≤◌}
 use mathlib.Core.Path.{◌≡◌}
 use lib.ListN.{length}
 use Rattle.text.specs.Text.{Put}

@@ -3,7 +3,7 @@ use Rattle.table.specs.Format.{head_of, fields_of}
 use Rattle.layout.specs.Contents.{contents, table_of}
 use lib.ListN.{length, drop}
 use mathlib.Core.Path.{◌≡◌}
-use Prim.Native.Nat.{suc, ◌-◌, ◌≤◌}
+use Prim.Native.Nat.{◌-◌, ◌≤◌}
 use Rattle.table.proofs.loading.fields.Given as goal
 
 abbrev pub invariant-loop-at : goal.invariant-loop-at

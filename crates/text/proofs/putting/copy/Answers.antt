@@ -4,7 +4,6 @@ use lib.ListN.{length-set}
 use native.Mathlib.Numerals.{add-one}
 use native.Mathlib.Omega.{arith}
 use lib.Seq.{paste-suc}
-use Prim.Native.Nat.{suc}
 use Rattle.text.proofs.putting.copy.Goals as goal
 
 pub loop-j-preserved : goal.loop-j-preserved

@@ -3,7 +3,7 @@
 use lib.Seq.{paste}
 use lib.ListN.{length}
 use mathlib.Core.Path.{◌≡◌}
-use Prim.Native.Nat.{suc, ◌-◌, ◌≤◌}
+use Prim.Native.Nat.{◌-◌, ◌≤◌}
 use Rattle.text.proofs.putting.copy.Given as goal
 
 abbrev pub invariant-loop-j : goal.invariant-loop-j

@@ -1,6 +1,6 @@
 -- A look at each byte: the bytes passed, carried on over the rest, are the same words.
 -- Assumes nothing.
-use Prim.Native.Nat.{suc, ◌-◌, ◌≤◌}
+use Prim.Native.Nat.{◌-◌, ◌≤◌}
 use mathlib.Core.Path.{◌≡◌}
 use lib.ListN.{length, take, drop}
 use Rattle.words.specs.Words.{words_from, words_of}
