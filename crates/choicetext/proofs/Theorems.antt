@@ -4,7 +4,7 @@ use Prim.Native.Nat.{ℕ, ◌≤◌, min}
 use native.Mathlib.Omega.{arith}
 use mathlib.Core.Path.{◌≡◌, refl, ap₂}
 use mathlib.Core.Bool.{true, ◌&&◌}
-use lib.Dec.{T, leb, leb→le, le→leb}
+use lib.Dec.{leb, leb→le, le→leb}
 use borrow.Author.Tests.{le-leb}
 use Rattle.arith.proofs.Bools.{bool_eq}
 use Rattle.layout.specs.declared.Table.{Table}

@@ -1,11 +1,11 @@
 -- An arrival of a ranked scan: what it finds, that it is accepted, and what it leaves.
 -- Assumes nothing.
-use Prim.Native.Nat.{ℕ, suc, ◌+◌, ◌-◌, ◌*◌, ◌^◌, ◌≤◌, ◌<◌, zero-le}
+use Prim.Native.Nat.{ℕ, suc, ◌+◌, ◌*◌, ◌^◌, ◌≤◌, ◌<◌, zero-le}
 use native.Mathlib.Omega.{arith}
-use mathlib.Core.Path.{◌≡◌, refl, sym, ap, ap₂, ◌∙◌, subst}
+use mathlib.Core.Path.{◌≡◌, refl, sym, ap, ◌∙◌, subst}
 use mathlib.Core.Bool.{Bool, true, false, not, cond, ◌&&◌}
 use lib.Dec.{T, ltb, leb, eqb, ltb→lt, nltb→le, le→leb, lt→ltb}
-use lib.IntN.{ℤ, pos, negsuc, sub_ℕ, ◌+ℤ◌, ◌-ℤ◌}
+use lib.IntN.{ℤ, pos, negsuc, sub_ℕ}
 use lib.ListN.{get_or, drop}
 use lib.Pow.{pow_pos, pow_mono}
 use mir.Facts.{yes_and}
@@ -27,13 +27,13 @@ use Rattle.ring.specs.Ring.{row_at, Kept}
 use Rattle.ring.proofs.Kept.{row_is}
 use Rattle.model.proofs.Rows.{InFrame}
 use Rattle.model.proofs.Edges.{leaving_row, entering_row, due_row, next_row}
-use Rattle.levels.specs.Levels.{count_at, one, moved_count, column_good, ranked}
+use Rattle.levels.specs.Levels.{count_at, one, moved_count, column_good}
 use Rattle.levels.proofs.Ranks.{ranked_cong}
 use Rattle.histograms.specs.declared.Arrival.{Arrival}
 use Rattle.histograms.specs.Windows.{column_count, window_count}
 use Rattle.histograms.specs.Arrivals.{Counting, delay_by, edge_row, is_given, times_at, edge_at, good_at, new_count, counts_after, shade_at}
 use Rattle.histograms.proofs.Counts.{delay_most}
-use Rattle.rankrun.specs.Rule.{Strip, inside, count_if, column_tally, tally, of_level, shade_of}
+use Rattle.rankrun.specs.Rule.{Strip, inside, count_if, column_tally, tally, shade_of}
 use Rattle.rankrun.proofs.Shades.{rule_by_counts}
 
 -- ---- the counts of a column

@@ -1,7 +1,7 @@
 -- Question 19 as the engine asks it is question 19 in the rules' words: a row that is passed over stands as zeros that count nothing.
 -- Assumes nothing.
 use Prim.Native.Nat.{ℕ, ◌+◌, ◌-◌, ◌^◌, zero-le}
-use mathlib.Core.Path.{◌≡◌, refl, ap, ap₂}
+use mathlib.Core.Path.{◌≡◌, refl, ap₂}
 use mathlib.Core.Bool.{Bool, true, false, cond, ◌&&◌}
 use mathlib.Core.Option.{none, some}
 use lib.Dec.{leb, ltb, eqb}

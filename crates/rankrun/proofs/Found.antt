@@ -1,14 +1,13 @@
 -- The level of a rank in counts: formula (2) of source 2 of docs/RULES.md, and that it is one of the levels counted.
 -- Assumes nothing.
 use Prim.Native.Nat.{ℕ, zero, suc, ◌+◌, ◌≤◌, ◌<◌}
-use native.Mathlib.Decide.{ℕ_discrete}
 use native.Mathlib.Omega.{arith}
 use mathlib.Core.Path.{◌≡◌, refl, sym, ap, ◌∙◌, subst}
-use mathlib.Core.Bool.{Bool, true, false, not, cond}
+use mathlib.Core.Bool.{Bool, true, false, not}
 use mathlib.Core.Logic.{◌↔◌}
 use lib.Dec.{T, leb, leb→le, nleb→lt, ltb→lt}
 use lib.IntN.{ℤ, pos, negsuc}
-use borrow.Author.Tests.{le-leb, lt-leb, ltb-false, eq-eqb}
+use borrow.Author.Tests.{le-leb, lt-leb, ltb-false}
 use Rattle.arith.specs.Sum.{sum}
 use Rattle.arith.specs.First.{first_not}
 use Rattle.arith.proofs.Firsts.{first_before, first_fails}

@@ -26,12 +26,11 @@ use Rattle.model.specs.Machines.{due_left, machine_asks, machine_row, machine_cl
 use Rattle.model.proofs.Rows.{rows_framed, row_at, below, last_row}
 use Rattle.model.proofs.Agrees.{Agree, due_agrees, row_agrees, close_agrees, step_agrees}
 use Rattle.model.proofs.Fair.{Fair, opened_fair, Known, row_known, row_fair, shut_fair, step_fair}
-use Rattle.histograms.specs.Arrivals.{Counting, counting, delay_by, good_at, arrival_asks, samples_after, counts_after}
+use Rattle.histograms.specs.Arrivals.{Counting, counting, good_at, arrival_asks, samples_after, counts_after}
 use Rattle.rank.specs.declared.RankScan.{RankScan}
-use Rattle.rank.specs.Calls.{World, world, rect_of, rank_delay, window_good, agrees, stores_good, lent_good, start_asks, start_of, arrival_of, due_said, taken_in}
+use Rattle.rank.specs.Calls.{World, world, rank_delay, window_good, agrees, stores_good, lent_good, start_asks, start_of, arrival_of, due_said, taken_in}
 use Rattle.rank.specs.Calls.{row_arrival, row_in, row_asks, row_of, shut, close_of, step_in, closing_of, step_of}
 use Rattle.rank.proofs.States.{Windowed, windowed, bits_most}
-use Rattle.rankrun.specs.Rule.{Strip}
 use Rattle.rankrun.specs.Holds.{Setting, Starts, Stores}
 use Rattle.rankrun.specs.Sequences.{strip_of, filter_of, engine}
 use Rattle.rankrun.proofs.Stores.{all_good, stores_none, stores_agree, stores_next, output_is}

@@ -1,15 +1,14 @@
 -- The rule of a ranked window: by the counts of its levels, by formula (2) of source 2 of docs/RULES.md, and what it depends on.
 -- Assumes nothing.
-use Prim.Native.Nat.{ℕ, ◌-◌, ◌^◌, ◌≤◌, ◌<◌}
+use Prim.Native.Nat.{ℕ, ◌^◌, ◌≤◌, ◌<◌}
 use native.Mathlib.Omega.{arith}
 use mathlib.Core.Path.{◌≡◌, refl, sym, ap, ap₂, ◌∙◌, subst}
 use mathlib.Core.Bool.{Bool, true, cond, ◌&&◌}
 use mathlib.Core.Logic.{◌↔◌}
-use lib.Dec.{leb, ltb, eqb}
+use lib.Dec.{leb, ltb}
 use lib.IntN.{ℤ, pos, negsuc}
 use lib.Pow.{pow_pos}
 use Rattle.arith.specs.Sum.{sum}
-use Rattle.arith.specs.First.{first_not}
 use Rattle.arith.proofs.Firsts.{first_cong}
 use Rattle.arith.proofs.Maxima.{largest_cong}
 use Rattle.arith.proofs.Sums.{sum_cong}

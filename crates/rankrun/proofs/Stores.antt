@@ -11,7 +11,6 @@ use lib.IntN.{ℤ, pos, negsuc, sub_ℕ, ◌+ℤ◌}
 use lib.Signed.{◌≤ℤ◌}
 use lib.Pow.{pow_mono}
 use lib.ListN.{length, get_or, drop}
-use borrow.Author.Tests.{le-ltb, lt-ltb}
 use Rattle.arith.specs.All.{all}
 use Rattle.arith.specs.Tab.{tab, zeroed}
 use Rattle.arith.proofs.Ints.{diff_pos, diff_add, diff_sub, le_diff, sub_high}
@@ -19,9 +18,8 @@ use Rattle.arith.proofs.Grids.{grid_long}
 use Rattle.arith.proofs.Passes.{pass_done, pass_length}
 use Rattle.arith.proofs.Pastes.{paste-length}
 use Rattle.arith.proofs.Tabs.{tab_cong}
-use Rattle.layout.specs.Measure.{rows_of}
 use Rattle.limits.specs.Limits.{rect_good}
-use Rattle.rule.specs.Sums.{Image, covered}
+use Rattle.rule.specs.Sums.{Image}
 use Rattle.rule.proofs.Depends.{covered_most}
 use Rattle.ring.specs.Ring.{Kept}
 use Rattle.ring.proofs.Kept.{kept_none, kept_next, place_end}
@@ -30,7 +28,7 @@ use Rattle.histograms.specs.declared.Arrival.{Arrival}
 use Rattle.histograms.specs.Arrivals.{Counting, delay_by, good_at, new_count, counts_after, samples_after, shade_at, output_after}
 use Rattle.rank.specs.Calls.{rect_of, stores_good}
 use Rattle.rank.proofs.States.{stores_bounds}
-use Rattle.rankrun.specs.Rule.{Strip, inside, column_tally, shade_of}
+use Rattle.rankrun.specs.Rule.{Strip, shade_of}
 use Rattle.rankrun.specs.Holds.{Setting, Stores}
 use Rattle.rankrun.proofs.Shades.{AlikeAt, column_alike}
 use Rattle.rankrun.proofs.Arrives.{Finds, column_none, counts_good, counts_next, shade_is}

@@ -8,15 +8,15 @@ use mathlib.Core.Logic.{⊎_elim}
 use mathlib.Core.Path.{◌≡◌, refl, sym, ap, ap₂, ◌∙◌, subst}
 use mathlib.Core.Bool.{Bool, true, false, not, cond, ◌&&◌}
 use lib.Dec.{T, leb, ltb, eqb, ltb→lt, nltb→le, leb→le, le→leb, lt→ltb}
-use lib.IntN.{ℤ, pos, negsuc}
-use borrow.Author.Tests.{lt-ltb, le-ltb, eq-eqb, ne_eqb, le-leb}
+use lib.IntN.{pos, negsuc}
+use borrow.Author.Tests.{lt-ltb, le-ltb, eq-eqb, ne_eqb}
 use Rattle.arith.specs.Sum.{sum}
 use Rattle.arith.specs.First.{first_not}
 use Rattle.arith.specs.Largest.{largest}
 use Rattle.arith.proofs.Bools.{bool_eq, true_of}
 use Rattle.arith.proofs.Firsts.{first_cong}
 use Rattle.arith.proofs.Maxima.{le-largest, largest_bound}
-use Rattle.arith.proofs.Sums.{sum_cong, sum_zero, sum-suc, sum_swap, term_zero}
+use Rattle.arith.proofs.Sums.{sum_cong, sum_zero, sum_swap, term_zero}
 use Rattle.levels.specs.Levels.{up_to, below, highest, ranked}
 use Rattle.levels.proofs.Ranks.{highest_top, highest_below}
 

@@ -9,7 +9,7 @@ use lib.Dec.{T}
 use lib.IntN.{ℤ, pos}
 use lib.ListN.{length}
 use Rattle.arith.specs.Tab.{tab}
-use Rattle.layout.specs.Answers.{refused, accepted, Left, left}
+use Rattle.layout.specs.Answers.{refused, accepted, Left}
 use Rattle.layout.specs.Sequences.{replies, ended}
 use Rattle.layout.proofs.Questions.{each_way}
 use Rattle.rule.specs.Questions.{width_good}

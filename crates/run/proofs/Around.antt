@@ -14,7 +14,7 @@ use Rattle.arith.specs.All.{all}
 use Rattle.arith.proofs.Bools.{true_of}
 use Rattle.layout.specs.declared.Table.{Table}
 use Rattle.layout.specs.Contents.{Contents}
-use Rattle.layout.specs.Answers.{refused, accepted, Left, left}
+use Rattle.layout.specs.Answers.{refused, accepted, Left}
 use Rattle.layout.specs.Sequences.{replies}
 use Rattle.layout.proofs.Questions.{each_way}
 use Rattle.limits.specs.Limits.{acceptable}

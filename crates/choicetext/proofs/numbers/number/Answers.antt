@@ -6,7 +6,7 @@ use Prim.Native.Nat.{suc, min}
 use mathlib.Core.Path.{sym, ap, ◌∙◌}
 use lib.ListN.{drop}
 use Rattle.arith.proofs.Bools.{yes, no}
-use Rattle.choicetext.specs.Numbers.{digit, number_most}
+use Rattle.choicetext.specs.Numbers.{number_most}
 use Rattle.choicetext.proofs.Digits.{digit_least, on_digit, no_digit, at_end_lem, capped, number_empty, number_other, number_read}
 use borrow.Author.Rules.{rules}
 use mathlib.Core.Bool.{not}

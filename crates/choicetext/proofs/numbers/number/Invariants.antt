@@ -1,6 +1,6 @@
 -- `choicetext::numbers::number`: digit after digit; what is left to read comes to the same as the whole word.
 -- Assumes nothing.
-use Prim.Native.Nat.{suc, ◌-◌, ◌≤◌, ◌<◌, min}
+use Prim.Native.Nat.{◌-◌, ◌≤◌, ◌<◌, min}
 use mathlib.Core.Path.{◌≡◌}
 use lib.ListN.{length, drop}
 use Rattle.choicetext.specs.Numbers.{all_digits, spells, number_most}
