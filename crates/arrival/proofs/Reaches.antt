@@ -46,9 +46,9 @@ module _ (d : Rect) (q3 q width : ℕ) (line : List ℕ) (f : LineFits d q3 q wi
       omega arith
 
   -- the running sums at the lead's place less those at the trail's
-  pub window_less_fits : {summed : List ℕ} → RunningSums width line summed → (i : ℕ) → i < width + 16
+  pub window_less : {summed : List ℕ} → RunningSums width line summed → (i : ℕ) → i < width + 16
       → less (get_or summed (lead + i) 0) (get_or summed (trail + i) 0) ≡ window_over d at (suc i)
-  window_less_fits s i h =
+  window_less s i h =
       let r = reach d bounds.col in
       let w = within d bounds.col in
       let a = ahead at f.padded.before trail (cols_of d) w (suc i) in
@@ -72,7 +72,7 @@ module _ (d : Rect) (q3 q width : ℕ) (line : List ℕ) (f : LineFits d q3 q wi
     unfolding share_over
     weigh_window {summed} s z i h =
         rw (el, et, part_at lead (width + 16) summed i h, part_at trail (width + 16) summed i h, ne_eqb q3 0 z, factor)
-        (ap (λ x. (get_or acc i 0 + factor_of d.weight q * (x / 2 ^ q3)) % 4294967296) (window_less_fits s i h))
+        (ap (λ x. (get_or acc i 0 + factor_of d.weight q * (x / 2 ^ q3)) % 4294967296) (window_less s i h))
 
   -- the window of column c, by parts of the running sums from its place on
   pub scaled_window :
@@ -83,7 +83,7 @@ module _ (d : Rect) (q3 q width : ℕ) (line : List ℕ) (f : LineFits d q3 q wi
       let g : trail + 16 + c ≡ trail + (16 + c) = omega arith in
       let n : suc (16 + c) ≡ 17 + c = omega arith in
       rw (el, et, part_at (lead + 16) width summed c h, part_at (trail + 16) width summed c h, e, g)
-      (ap (λ x. x / 2 ^ q3 * 2 ^ q) (window_less_fits s (16 + c) (omega arith) ∙ ap (window_over d at) n))
+      (ap (λ x. x / 2 ^ q3 * 2 ^ q) (window_less s (16 + c) (omega arith) ∙ ap (window_over d at) n))
 
   -- and with it the value of the column
   pub with_window :

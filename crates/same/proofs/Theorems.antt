@@ -124,12 +124,12 @@ place_parts a b h l =
 row_less : (k : ℕ) → k < 961 → k / 31 < 31
 row_less k h = let d = div-add-mod k 31 in omega arith
 
-column_less_fits : (k : ℕ) → k % 31 < 31
-column_less_fits k = mod-lt k {m = 31} (omega arith)
+column_less : (k : ℕ) → k % 31 < 31
+column_less k = mod-lt k {m = 31} (omega arith)
 
 none_unlike : (t u : Table) → SameWeights t u → first_unlike t u ≡ 961
 unfolding first_unlike alike_at
-none_unlike t u w = first_none 961 (alike_at t u) (λ k h. eq→eq_z (w (k / 31) (k % 31) (row_less k h) (column_less_fits k)))
+none_unlike t u w = first_none 961 (alike_at t u) (λ k h. eq→eq_z (w (k / 31) (k % 31) (row_less k h) (column_less k)))
 
 -- offsets before the first unlike one have equal weights
 like_before : (t u : Table) (k : ℕ) → k < first_unlike t u → weight_at t (k / 31) (k % 31) ≡ weight_at u (k / 31) (k % 31)
@@ -250,7 +250,7 @@ module _ (t u : Table) (c : Comparable t u) (h : first_unlike t u < 961) where
   shows_one =
       record {
         taken = spot_taken t top a b c.one refl;
-        value = spot_value top a b t (gt t u c) (nt t u c) bright.1 (row_less (first_unlike t u) h) (column_less_fits (first_unlike t u));
+        value = spot_value top a b t (gt t u c) (nt t u c) bright.1 (row_less (first_unlike t u) h) (column_less (first_unlike t u));
       }
 
   shows_other : Shows u (spot top a b) a b
@@ -259,14 +259,14 @@ module _ (t u : Table) (c : Comparable t u) (h : first_unlike t u < 961) where
       record {
         taken = spot_taken u top a b c.other e;
         value =
-            spot_value top a b u (gu t u c) (nu t u c) bright.1 (row_less (first_unlike t u) h) (column_less_fits (first_unlike t u))
+            spot_value top a b u (gu t u c) (nu t u c) bright.1 (row_less (first_unlike t u) h) (column_less (first_unlike t u))
             ∙ ap (λ n. weight_at u a b *ℤ pos n) e;
       }
 
   values_differ : cut_value t (sample_at 31 (spot top a b)) (pos 15) (pos 15) ≢ cut_value u (sample_at 31 (spot top a b)) (pos 15) (pos 15)
   values_differ e =
       let i = row_less (first_unlike t u) h in
-      let j = column_less_fits (first_unlike t u) in
+      let j = column_less (first_unlike t u) in
       first_unlike_lem t u h
       (scale_cancel top bright.0 (weight_at t a b) (weight_at u a b)
       (sym (spot_value top a b t (gt t u c) (nt t u c) bright.1 i j) ∙ e ∙ spot_value top a b u (gu t u c) (nu t u c) bright.1 i j))
@@ -278,7 +278,7 @@ module _ (t u : Table) (c : Comparable t u) (h : first_unlike t u < 961) where
         a = a;
         b = b;
         a_less = row_less (first_unlike t u) h;
-        b_less = column_less_fits (first_unlike t u);
+        b_less = column_less (first_unlike t u);
         row_is = r;
         col_is = s;
         scan_is = refl;
