@@ -7,8 +7,10 @@ ghost use Rattle.std.specs.Prelude.{◌≤◌, length};
 
 use choicetext::Word;
 use layout::{Table, Verdict};
-use libc::STDERR_FILENO;
-use streams::refuse;
+use std::env::Env;
+use std::io::{Read, Write};
+use std::rt::Files;
+use streams::{fail, refuse};
 
 // A number of the command line; or that there is a fault, which was said.
 #[derive(Clone, Copy)]
@@ -18,61 +20,77 @@ struct Setting {
 }
 
 // Says that a word is no number.
-fn no_number(what: &[u8], word: &[u8])
+fn no_number<E: Write>(errors: &mut E, what: &[u8], word: &[u8])
     requires { (length what.now ≤ 16) × (length word.now ≤ 4096) }
 {
     let mut line = [0u8; 4608];
     let end = choicetext::put_no_number(&mut line, what, word);
-    io::write_all(STDERR_FILENO, &line[..end]);
+    let _ = errors.write_all(&line[..end]);
 }
 
 // The number that word i is, `other` where there is no such word.
-fn number_word(i: usize, what: &[u8], other: u64) -> Setting
+fn number_word<R: Env, E: Write>(
+    rt: &R,
+    errors: &mut E,
+    i: usize,
+    what: &[u8],
+    other: u64,
+) -> Setting
     requires { length what.now ≤ 16 }
 {
-    if os::arg_count() <= i {
+    if streams::count_words(rt) <= i {
         return Setting {
             failed: false,
             value: other,
         };
     }
-    let mut word = io::buffer();
-    let n = os::arg(i, &mut word);
-    if os::errno() != 0 {
-        os::fail(what);
-        return Setting {
-            failed: true,
-            value: 0,
-        };
-    }
-    let w = choicetext::number(&word[..n]);
-    match w {
-        Word::Number(value) => Setting {
-            failed: false,
-            value,
-        },
-        Word::Other => {
-            no_number(what, &word[..n]);
+    let mut word = [0u8; 4096];
+    match streams::word(rt, i, &mut word) {
+        Err(why) => {
+            fail(errors, what, &why);
             Setting {
                 failed: true,
                 value: 0,
+            }
+        }
+        Ok(n) => {
+            let w = choicetext::number(&word[..n]);
+            match w {
+                Word::Number(value) => Setting {
+                    failed: false,
+                    value,
+                },
+                Word::Other => {
+                    no_number(errors, what, &word[..n]);
+                    Setting {
+                        failed: true,
+                        value: 0,
+                    }
+                }
             }
         }
     }
 }
 
 // Prints the choices of a table.
-fn print(t: Table, width: usize, most: u64) {
+fn print<O: Write, E: Write>(output: &mut O, errors: &mut E, t: Table, width: usize, most: u64) {
     let mut page = [0u8; 165000];
     let end = choicetext::list(t, width, most, &mut page);
-    streams::put(&page[..end]);
+    streams::put(output, errors, &page[..end]);
 }
 
 // Prints the choices of the table file that the first word names, or says why not.
-fn print_file(width: usize, most: u64) {
-    let mut name = io::buffer();
+fn print_file<R: Files + Env, S: Read, O: Write, E: Write>(
+    rt: &R,
+    input: &mut S,
+    output: &mut O,
+    errors: &mut E,
+    width: usize,
+    most: u64,
+) {
+    let mut name = [0u8; 4096];
     let mut bytes = [0u8; 156];
-    let from = streams::input(&mut bytes, table::read_most(), &mut name);
+    let from = streams::input(rt, input, errors, &mut bytes, table::read_most(), &mut name);
     if from.failed {
         return;
     }
@@ -81,35 +99,43 @@ fn print_file(width: usize, most: u64) {
     let loaded = table::load(&bytes[..n]);
     let v = loaded.verdict;
     match v {
-        Verdict::Refused(number, place) => refuse(&name[..m], place, number),
+        Verdict::Refused(number, place) => refuse(errors, &name[..m], place, number),
         Verdict::Accepted => {
             let t = loaded.table;
-            print(t, width, most)
+            print(output, errors, t, width, most)
         }
     }
 }
 
-fn main() {
-    let count = os::arg_count();
+fn main(rt: HostRuntime) {
+    let mut errors = rt.stderr();
+    let count = streams::count_words(&rt);
     if count < 2 {
-        io::write_all(STDERR_FILENO, b"usage: drops TABLE [MOST [WIDTH]]\n");
+        let _ = errors.write_all(b"usage: drops TABLE [MOST [WIDTH]]\n");
         return;
     }
     if 4 < count {
-        io::write_all(STDERR_FILENO, b"usage: drops TABLE [MOST [WIDTH]]\n");
+        let _ = errors.write_all(b"usage: drops TABLE [MOST [WIDTH]]\n");
         return;
     }
-    let most = number_word(2, b"MOST", choicetext::no_most());
+    let most = number_word(&rt, &mut errors, 2, b"MOST", choicetext::no_most());
     if most.failed {
         return;
     }
-    let width = number_word(3, b"WIDTH", 1024);
+    let width = number_word(&rt, &mut errors, 3, b"WIDTH", 1024);
     if width.failed {
         return;
     }
     if !rule::width_good(width.value as usize) {
-        refuse(b"drops", 0, 12);
+        refuse(&mut errors, b"drops", 0, 12);
         return;
     }
-    print_file(width.value as usize, most.value);
+    print_file(
+        &rt,
+        &mut rt.stdin(),
+        &mut rt.stdout(),
+        &mut errors,
+        width.value as usize,
+        most.value,
+    );
 }

@@ -6,18 +6,18 @@
 mod cells;
 mod lines;
 
-use libc::STDIN_FILENO;
-use streams::{gather, put};
+use streams::{fail, gather, put};
 
-fn main() {
+fn main(rt: HostRuntime) {
+    let mut errors = rt.stderr();
     let mut input = [0u8; 156];
     let most = table::read_most();
-    let got = gather(STDIN_FILENO, &mut input, 0, most, most);
-    if got.failed {
-        os::fail(b"standard input");
+    let got = gather(&mut rt.stdin(), &mut input, 0, most, most);
+    if let Some(why) = &got.failed {
+        fail(&mut errors, b"standard input", why);
     }
     let n = got.end;
-    let mut page = io::buffer();
+    let mut page = [0u8; 4096];
     let end = lines::list(&input[..n], &mut page);
-    put(&page[..end]);
+    put(&mut rt.stdout(), &mut errors, &page[..end]);
 }

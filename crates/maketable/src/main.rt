@@ -2,34 +2,42 @@
 // that cannot be read, is a line on standard error, and nothing is written.
 #![tactic(auto)]
 
-use libc::STDERR_FILENO;
+use std::io::Write;
 use streams::{put, refuse};
 use table::Written;
 
 // Makes the table file of this text. The longest has 153 bytes.
-fn make(text: &[u8], name: &[u8]) {
+fn make<O: Write, E: Write>(output: &mut O, errors: &mut E, text: &[u8], name: &[u8]) {
     let mut page = [0u8; 153];
     let w = making::make(text, &mut page);
     match w {
         Written::Length(n) => {
-            put(&page[..n]);
+            put(output, errors, &page[..n]);
         }
-        Written::Refused(number, place) => refuse(name, place, number),
+        Written::Refused(number, place) => refuse(errors, name, place, number),
     }
 }
 
-fn main() {
-    if 2 < os::arg_count() {
-        io::write_all(STDERR_FILENO, b"usage: maketable [TEXT]\n");
+fn main(rt: HostRuntime) {
+    let mut errors = rt.stderr();
+    if 2 < streams::count_words(&rt) {
+        let _ = errors.write_all(b"usage: maketable [TEXT]\n");
         return;
     }
-    let mut name = io::buffer();
+    let mut name = [0u8; 4096];
     let mut text = [0u8; 65536];
-    let from = streams::input(&mut text, 65536, &mut name);
+    let from = streams::input(
+        &rt,
+        &mut rt.stdin(),
+        &mut errors,
+        &mut text,
+        65536,
+        &mut name,
+    );
     if from.failed {
         return;
     }
     let n = from.end;
     let m = from.name;
-    make(&text[..n], &name[..m]);
+    make(&mut rt.stdout(), &mut errors, &text[..n], &name[..m]);
 }

@@ -5,45 +5,54 @@
 mod answers;
 mod weights;
 
-ghost use Rattle.io.specs.Counts.{IsPrefixLen};
+ghost use Rattle.streams.specs.Streams.{IsPrefixLen};
 
-use libc::STDERR_FILENO;
-use streams::{Got, put};
+use std::env::Env;
+use std::io::Write;
+use std::rt::Files;
+use streams::{Got, fail, put};
 
 // The bytes of the table file that word i names, no more than loading needs.
-fn table_file(i: usize, bytes: &mut [u8; 156]) -> Got
+fn table_file<R: Files + Env, E: Write>(
+    rt: &R,
+    errors: &mut E,
+    i: usize,
+    bytes: &mut [u8; 156],
+) -> Got
     ensures { IsPrefixLen result.end bytes.new }
 {
-    let mut path = io::buffer();
-    let n = os::arg(i, &mut path);
-    if os::errno() != 0 {
-        os::fail(b"table");
-        return Got {
-            end: 0,
-            failed: true,
-        };
+    let mut path = [0u8; 4096];
+    match streams::word(rt, i, &mut path) {
+        Err(why) => {
+            fail(errors, b"table", &why);
+            Got {
+                end: 0,
+                failed: Some(why),
+            }
+        }
+        Ok(n) => streams::file(rt, errors, &path[..n], bytes, table::read_most()),
     }
-    streams::file(&path[..n], bytes, table::read_most())
 }
 
-fn main() {
-    if os::arg_count() != 3 {
-        io::write_all(STDERR_FILENO, b"usage: sametable TABLE TABLE\n");
+fn main(rt: HostRuntime) {
+    let mut errors = rt.stderr();
+    if streams::count_words(&rt) != 3 {
+        let _ = errors.write_all(b"usage: sametable TABLE TABLE\n");
         return;
     }
     let mut first = [0u8; 156];
     let mut second = [0u8; 156];
-    let a = table_file(1, &mut first);
-    if a.failed {
+    let a = table_file(&rt, &mut errors, 1, &mut first);
+    if a.failed.is_some() {
         return;
     }
-    let b = table_file(2, &mut second);
-    if b.failed {
+    let b = table_file(&rt, &mut errors, 2, &mut second);
+    if b.failed.is_some() {
         return;
     }
     let n = a.end;
     let m = b.end;
-    let mut page = io::buffer();
+    let mut page = [0u8; 4096];
     let end = answers::compare(&first[..n], &second[..m], &mut page);
-    put(&page[..end]);
+    put(&mut rt.stdout(), &mut errors, &page[..end]);
 }

@@ -2,34 +2,42 @@
 // cannot be read, is a line on standard error, and nothing is shown.
 #![tactic(auto)]
 
-use libc::STDERR_FILENO;
 use showing::Shown;
+use std::io::Write;
 use streams::{put, refuse};
 
 // Shows the table file of these bytes.
-fn show(bytes: &[u8], name: &[u8]) {
-    let mut page = io::buffer();
+fn show<O: Write, E: Write>(output: &mut O, errors: &mut E, bytes: &[u8], name: &[u8]) {
+    let mut page = [0u8; 4096];
     let s = showing::show(bytes, &mut page);
     match s {
         Shown::Length(n) => {
-            put(&page[..n]);
+            put(output, errors, &page[..n]);
         }
-        Shown::Refused(number, place) => refuse(name, place, number),
+        Shown::Refused(number, place) => refuse(errors, name, place, number),
     }
 }
 
-fn main() {
-    if 2 < os::arg_count() {
-        io::write_all(STDERR_FILENO, b"usage: showtable [TABLE]\n");
+fn main(rt: HostRuntime) {
+    let mut errors = rt.stderr();
+    if 2 < streams::count_words(&rt) {
+        let _ = errors.write_all(b"usage: showtable [TABLE]\n");
         return;
     }
-    let mut name = io::buffer();
+    let mut name = [0u8; 4096];
     let mut bytes = [0u8; 156];
-    let from = streams::input(&mut bytes, table::read_most(), &mut name);
+    let from = streams::input(
+        &rt,
+        &mut rt.stdin(),
+        &mut errors,
+        &mut bytes,
+        table::read_most(),
+        &mut name,
+    );
     if from.failed {
         return;
     }
     let n = from.end;
     let m = from.name;
-    show(&bytes[..n], &name[..m]);
+    show(&mut rt.stdout(), &mut errors, &bytes[..n], &name[..m]);
 }

@@ -8,9 +8,9 @@ use Rattle.showing.proofs.Answers.{shown_within}
 use Rattle.showtable.proofs.show.Goals as goal
 
 pub slice_bounds-page-end : goal.slice_bounds-page-end
-slice_bounds-page-end c = let e = ap (λ r. wrote (shown_said r) c.show-s.new.out) (sym c.in-Length.is) in
+slice_bounds-page-end g c = let e = ap (λ r. wrote (shown_said r) c.show-s.new.out) (sym c.in-Length.is) in
     shown_within _ _ (e ∙ c.show-s.ensures)
 
 pub slice_bounds-put-end : goal.slice_bounds-put-end
-slice_bounds-put-end c = let e = ap (λ r. wrote (shown_said r) c.show-s.new.out) (sym c.in-Length.is) in
+slice_bounds-put-end g c = let e = ap (λ r. wrote (shown_said r) c.show-s.new.out) (sym c.in-Length.is) in
     sym (length-take-le _ _ (shown_within _ _ (e ∙ c.show-s.ensures)))
