@@ -2,7 +2,7 @@
 ghost use Rattle.std.specs.Prelude.{◌<◌, ◌≤◌};
 
 use crate::chance::next;
-use libc::STDOUT_FILENO;
+use std::io::Write;
 
 pub const REFUSED: usize = 0;
 
@@ -77,33 +77,34 @@ pub fn pixel(n: &mut [u64; 19], engine: u64, beside: u64) {
 }
 
 // The name of number i, 36 bytes.
-fn name(names: &[u8], i: usize)
+fn name<W: Write>(output: &mut W, names: &[u8], i: usize)
     requires { i < 19 }
 {
     let at = 36 * i;
     let end = at + 36;
     if end <= names.len() {
-        io::write_all(STDOUT_FILENO, &names[at..end]);
+        let _ = output.write_all(&names[at..end]);
     }
 }
 
-fn number(x: u64) {
-    io::print_decimal(STDOUT_FILENO, x);
-    io::write_all(STDOUT_FILENO, b"\n");
+fn number<W: Write>(output: &mut W, x: u64) {
+    let _ = write!(output, "{x}");
+    let _ = output.write_all(b"\n");
 }
 
 // The numbers, each with its name.
-fn lines(names: &[u8], n: &[u64; 19]) {
+fn lines<W: Write>(output: &mut W, names: &[u8], n: &[u64; 19]) {
     let mut i = 0;
     while i < 19 {
-        name(names, i);
-        number(n[i]);
+        name(output, names, i);
+        number(output, n[i]);
         i += 1;
     }
 }
 
-pub fn put(n: &[u64; 19]) {
+pub fn put<W: Write>(output: &mut W, n: &[u64; 19]) {
     lines(
+        output,
         b"tables refused .................... scans ............................. scans with no rows ................ \
         scans with fewer rows than D ...... scans with drops .................. scans with a lead row below 0 ..... \
         rows in ........................... dead elements ..................... waiting ........................... \

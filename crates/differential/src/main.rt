@@ -14,8 +14,8 @@ mod tables;
 use chance::{draw, less, mixed, next};
 use counts::{add, count};
 use layout::{Table, Verdict};
-use libc::STDOUT_FILENO;
 use runs::Task;
+use std::io::Write;
 use table::Loaded;
 
 // How many tables are drawn, and how many ranked windows.
@@ -160,12 +160,13 @@ fn all_ranked(n: &mut [u64; 19]) {
     }
 }
 
-fn main() {
+fn main(rt: HostRuntime) {
+    let mut output = rt.stdout();
     let mut n = [0u64; 19];
     all(&mut n);
-    counts::put(&n);
+    counts::put(&mut output, &n);
     let mut m = [0u64; 19];
     all_ranked(&mut m);
-    io::write_all(STDOUT_FILENO, b"ranked windows\n");
-    counts::put(&m);
+    let _ = output.write_all(b"ranked windows\n");
+    counts::put(&mut output, &m);
 }

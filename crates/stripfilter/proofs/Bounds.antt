@@ -3,10 +3,10 @@
 use Prim.Native.Nat.{ℕ, zero, suc, ◌+◌, ◌-◌, ◌*◌, ◌/◌, ◌≤◌, ◌<◌, min}
 use native.Mathlib.Omega.{arith}
 use native.Mathlib.Nat.{div-mul-le_self, lt-div-mul-add, mul-le-mul}
-use mathlib.Core.Path.{◌≡◌, refl, sym, ap, ◌∙◌}
+use mathlib.Core.Path.{◌≡◌, ◌∙◌}
 use mathlib.Core.Bool.{Bool, true, false, cond}
 use Rattle.arith.specs.First.{first_not}
-use Rattle.pgm.specs.Raster.{sample_bytes, decoded_count}
+use Rattle.pgm.specs.Raster.{decoded_count}
 use Rattle.filtering.specs.Moves.{packed_count, moved_count}
 
 pub decoded_in : (n maxval bytes places : ℕ) → n ≡ decoded_count maxval bytes places → n ≤ places

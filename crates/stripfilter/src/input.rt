@@ -1,51 +1,57 @@
 // What is read: the words of the command line, the table file, and the scan's header.
 ghost use Rattle.std.specs.Prelude.{◌≡◌, false, T};
-ghost use Rattle.io.specs.Counts.{IsPrefixLen};
 ghost use Rattle.filtering.specs.Judging.{Accepts};
+ghost use Rattle.streams.specs.Streams.{IsPrefixLen};
 
+use crate::console::Console;
 use crate::output;
 use commands::Command;
 use filtering::{Job, Judged};
-use libc::STDIN_FILENO;
 use pgm::Opening;
-use streams::{Got, gather};
+use std::env::Env;
+use std::io;
+use std::io::{Read, Write};
+use std::rt::Files;
+use streams::{Got, fail, gather};
 
 // What the command line comes to with the word at place i.
-fn with_word(c: Command, i: usize) -> Command {
-    let mut word = io::buffer();
-    let n = os::arg(i, &mut word);
-    commands::next(c, i, &word[..n])
+fn with_word<R: Env>(rt: &R, c: Command, i: usize) -> Command {
+    let mut word = [0u8; 4096];
+    match streams::word(rt, i, &mut word) {
+        Ok(n) => commands::next(c, i, &word[..n]),
+        Err(_) => commands::next(c, i, b""),
+    }
 }
 
 // What the words of the command line come to.
-pub fn command() -> Command {
-    let n = os::arg_count();
+pub fn command<R: Env>(rt: &R) -> Command {
+    let n = streams::count_words(rt);
     let mut c = Command::Filter(false, 0);
     let mut i = 1;
     while i < n {
-        c = with_word(c, i);
+        c = with_word(rt, c, i);
         i += 1;
     }
     commands::ended(c)
 }
 
 // The bytes of a table file, no more than loading needs.
-pub fn table(path: &[u8], bytes: &mut [u8; 156]) -> Got
+pub fn table<R: Files, E: Write>(rt: &R, errors: &mut E, path: &[u8], bytes: &mut [u8; 156]) -> Got
     ensures { IsPrefixLen result.end bytes.new }
 {
-    streams::file(path, bytes, table::read_most())
+    streams::file(rt, errors, path, bytes, table::read_most())
 }
 
-// The header of the scan, how many bytes of it were read, and whether a read failed.
-#[derive(Clone, Copy)]
+// The header of the scan, how many bytes of it were read, and why a read failed, if one did.
+#[derive(Drop)]
 pub struct Opened {
     pub opening: Opening,
     pub n: usize,
-    pub failed: bool,
+    pub failed: Option<io::Error>,
 }
 
 // A header that goes on where nothing more comes.
-fn unfinished(n: usize, failed: bool) -> Opened {
+fn unfinished(n: usize, failed: Option<io::Error>) -> Opened {
     Opened {
         opening: Opening::More,
         n,
@@ -54,18 +60,18 @@ fn unfinished(n: usize, failed: bool) -> Opened {
 }
 
 // The header of the scan, read byte by byte, so that nothing of the rows is taken.
-pub fn opening() -> Opened {
-    let mut space = io::buffer();
+pub fn opening<S: Read>(input: &mut S) -> Opened {
+    let mut space = [0u8; 4096];
     let bytes: &mut [u8] = &mut space;
     let mut n = 0;
     while n < 4096 {
         let next = n + 1;
-        let got = gather(STDIN_FILENO, bytes, n, next, next);
-        if got.failed {
-            return unfinished(n, true);
+        let got = gather(input, bytes, n, next, next);
+        if got.failed.is_some() {
+            return unfinished(n, got.failed);
         }
         if got.end == n {
-            return unfinished(n, false);
+            return unfinished(n, None);
         }
         n = next;
         let h = pgm::header(&bytes[..n]);
@@ -75,12 +81,12 @@ pub fn opening() -> Opened {
                 return Opened {
                     opening: h,
                     n,
-                    failed: false,
+                    failed: None,
                 };
             }
         }
     }
-    unfinished(n, false)
+    unfinished(n, None)
 }
 
 // Whether the scan is taken, and what its header says.
@@ -103,12 +109,12 @@ fn not_taken() -> Announced
 }
 
 // The scan that the header announces, for samples of b bits. Where it is not taken, a line says why.
-pub fn header(b: u8) -> Announced
+pub fn header<S: Read, O, E: Write>(console: &mut Console<S, O, E>, b: u8) -> Announced
     ensures { T result.taken → Accepts result.job }
 {
-    let opened = opening();
-    if opened.failed {
-        os::fail(b"scan");
+    let opened = opening(&mut console.input);
+    if let Some(why) = &opened.failed {
+        fail(&mut console.errors, b"scan", why);
         return not_taken();
     }
     let h = opened.opening;
@@ -116,7 +122,7 @@ pub fn header(b: u8) -> Announced
     match judged {
         Judged::Accepted(job) => Announced { taken: true, job },
         Judged::Faulty(fault) => {
-            output::report(b"scan", fault);
+            output::report(&mut console.errors, b"scan", fault);
             not_taken()
         }
     }

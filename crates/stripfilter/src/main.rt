@@ -4,6 +4,7 @@
 // is decided stands in the crate filtering; here bytes are moved between calls.
 #![tactic(auto)]
 
+mod console;
 mod input;
 mod output;
 mod ranks;
@@ -12,29 +13,44 @@ mod rows;
 ghost use Rattle.filtering.specs.Judging.{Accepts};
 
 use commands::Command;
+use console::Console;
 use filtering::{Fault, Job};
 use layout::Table;
-use libc::{STDERR_FILENO, STDOUT_FILENO};
 use output::{Form, Plan};
 use scan::Scan;
+use std::env::Env;
+use std::io::{Read, Write};
+use std::rt::Files;
+use streams::fail;
 
 // Runs a scan that has been started: its header goes out, then the rows as they come, then the rows that the closing steps
 // give.
-fn run(plan: Plan, s: Scan, samples: &mut [u16], sums: &mut [u32])
+fn run<S: Read, O: Write, E: Write>(
+    console: &mut Console<S, O, E>,
+    plan: Plan,
+    s: Scan,
+    samples: &mut [u16],
+    sums: &mut [u32],
+)
     requires { Accepts plan.job }
 {
-    if !output::begin(plan) {
+    if !output::begin(console, plan) {
         return;
     }
-    let last = rows::rows(plan, s, samples, sums);
+    let last = rows::rows(console, plan, s, samples, sums);
     if last.writable {
         let closed = scan::close(last.scan);
-        rows::steps(plan, closed.scan, samples, sums);
+        rows::steps(console, plan, closed.scan, samples, sums);
     }
 }
 
 // Starts a scan filtered by a table.
-fn start(t: Table, job: Job, values: bool)
+fn start<S: Read, O: Write, E: Write>(
+    console: &mut Console<S, O, E>,
+    t: Table,
+    job: Job,
+    values: bool,
+)
     requires { Accepts job }
 {
     let mut samples = [0u16; 32768];
@@ -50,25 +66,30 @@ fn start(t: Table, job: Job, values: bool)
                 Form::Words(t.w)
             };
             let plan = Plan { job, form };
-            run(plan, started.scan, &mut samples, &mut sums);
+            run(console, plan, started.scan, &mut samples, &mut sums);
         }
-        _ => output::report(b"scan", fault),
+        _ => output::report(&mut console.errors, b"scan", fault),
     }
 }
 
 // Filters standard input by a table.
-fn filter(t: Table, values: bool) {
-    let a = input::header(t.b);
+fn filter<S: Read, O: Write, E: Write>(console: &mut Console<S, O, E>, t: Table, values: bool) {
+    let a = input::header(console, t.b);
     if a.taken {
-        start(t, a.job, values);
+        start(console, t, a.job, values);
     }
 }
 
 // Filters by the table file at a path.
-fn by_table(path: &[u8], values: bool) {
+fn by_table<R: Files, S: Read, O: Write, E: Write>(
+    rt: &R,
+    console: &mut Console<S, O, E>,
+    path: &[u8],
+    values: bool,
+) {
     let mut bytes = [0u8; 156];
-    let got = input::table(path, &mut bytes);
-    if got.failed {
+    let got = input::table(rt, &mut console.errors, path, &mut bytes);
+    if got.failed.is_some() {
         return;
     }
     let n = got.end;
@@ -76,30 +97,38 @@ fn by_table(path: &[u8], values: bool) {
     let v = loaded.verdict;
     let fault = filtering::table_fault(v, n);
     match fault {
-        Fault::None => filter(loaded.table, values),
-        _ => output::report(path, fault),
+        Fault::None => filter(console, loaded.table, values),
+        _ => output::report(&mut console.errors, path, fault),
     }
 }
 
 // Filters by the table that word i names.
-fn by_word(i: usize, values: bool) {
-    let mut path = io::buffer();
-    let n = os::arg(i, &mut path);
-    if os::errno() != 0 {
-        os::fail(b"table");
-        return;
+fn by_word<R: Files + Env, S: Read, O: Write, E: Write>(
+    rt: &R,
+    console: &mut Console<S, O, E>,
+    i: usize,
+    values: bool,
+) {
+    let mut path = [0u8; 4096];
+    match streams::word(rt, i, &mut path) {
+        Ok(n) => by_table(rt, console, &path[..n], values),
+        Err(why) => fail(&mut console.errors, b"table", &why),
     }
-    by_table(&path[..n], values);
 }
 
-fn main() {
-    let c = input::command();
+fn main(rt: HostRuntime) {
+    let mut console = Console {
+        input: rt.stdin(),
+        output: rt.stdout(),
+        errors: rt.stderr(),
+    };
+    let c = input::command(&rt);
     match c {
-        Command::Filter(values, table) => by_word(table, values),
-        Command::Ranked(values, r) => ranks::filter(r, values),
-        Command::Unknown(i) => output::about_word(c, i),
-        Command::NoNumber(i) => output::about_word(c, i),
-        Command::Usage => output::answer(STDERR_FILENO, c),
-        _ => output::answer(STDOUT_FILENO, c),
+        Command::Filter(values, table) => by_word(&rt, &mut console, table, values),
+        Command::Ranked(values, r) => ranks::filter(&mut console, r, values),
+        Command::Unknown(i) => output::about_word(&rt, &mut console.errors, c, i),
+        Command::NoNumber(i) => output::about_word(&rt, &mut console.errors, c, i),
+        Command::Usage => output::answer(&mut console.errors, c),
+        _ => output::answer(&mut console.output, c),
     }
 }

@@ -1,35 +1,38 @@
 // What is written.
-ghost use Rattle.std.specs.Prelude.{◌*◌, ◌≤◌, length};
+ghost use Rattle.std.specs.Prelude.{◌≤◌};
 ghost use Rattle.filtering.specs.Judging.{Accepts};
 
+use crate::console::Console;
 use commands::Command;
 use filtering::{Fault, Job, put_answer, put_fault};
-use libc::STDERR_FILENO;
+use std::env::Env;
+use std::io::Write;
 use streams::put;
 
 // A line on standard error: what a fault is a fault of, and the fault.
-pub fn report(what: &[u8], fault: Fault) {
-    let mut text = io::buffer();
+pub fn report<E: Write>(errors: &mut E, what: &[u8], fault: Fault) {
+    let mut text = [0u8; 4096];
     let n = put_fault(fault, &mut text);
-    io::write_all(STDERR_FILENO, what);
-    io::write_all(STDERR_FILENO, b": ");
-    io::write_all(STDERR_FILENO, &text[..n]);
+    let _ = errors.write_all(what);
+    let _ = errors.write_all(b": ");
+    let _ = errors.write_all(&text[..n]);
 }
 
 // The answer to a command line that asks for no filtering.
-pub fn answer(fd: i32, c: Command) {
-    let mut text = io::buffer();
+pub fn answer<W: Write>(stream: &mut W, c: Command) {
+    let mut text = [0u8; 4096];
     let n = put_answer(c, &mut text);
-    io::write_all(fd, &text[..n]);
+    let _ = stream.write_all(&text[..n]);
 }
 
 // The same about word i.
-pub fn about_word(c: Command, i: usize) {
-    let mut word = io::buffer();
-    let n = os::arg(i, &mut word);
-    io::write_all(STDERR_FILENO, &word[..n]);
-    io::write_all(STDERR_FILENO, b": ");
-    answer(STDERR_FILENO, c);
+pub fn about_word<R: Env, E: Write>(rt: &R, errors: &mut E, c: Command, i: usize) {
+    let mut word = [0u8; 4096];
+    if let Ok(n) = streams::word(rt, i, &mut word) {
+        let _ = errors.write_all(&word[..n]);
+    }
+    let _ = errors.write_all(b": ");
+    answer(errors, c);
 }
 
 // How filtered rows are written: as decimal numbers, as samples of two bytes from pixels of this many bits, or as bytes.
@@ -48,25 +51,29 @@ pub struct Plan {
 }
 
 // The header of a picture with this maxval.
-fn head(job: Job, maxval: u32) -> bool {
+fn head<S, O: Write, E: Write>(console: &mut Console<S, O, E>, job: Job, maxval: u32) -> bool {
     let mut text = [0u8; 66];
     let n = pgm::head(job.width, job.height, maxval, &mut text);
-    put(&text[..n])
+    put(&mut console.output, &mut console.errors, &text[..n])
 }
 
 // What comes before the rows: nothing before decimal numbers; bytes have the scan's maxval.
-pub fn begin(plan: Plan) -> bool {
+pub fn begin<S, O: Write, E: Write>(console: &mut Console<S, O, E>, plan: Plan) -> bool {
     let job = plan.job;
     let form = plan.form;
     match form {
         Form::Values => true,
-        Form::Words(_) => head(job, 65535),
-        Form::Bytes => head(job, job.maxval),
+        Form::Words(_) => head(console, job, 65535),
+        Form::Bytes => head(console, job, job.maxval),
     }
 }
 
 // Filtered rows as lines of decimal numbers.
-fn lines(pixels: &[i32], width: usize) -> bool
+fn lines<S, O: Write, E: Write>(
+    console: &mut Console<S, O, E>,
+    pixels: &[i32],
+    width: usize,
+) -> bool
     requires { 1 ≤ width }
 {
     let mut space = [0u8; 22528];
@@ -75,7 +82,7 @@ fn lines(pixels: &[i32], width: usize) -> bool
     while width <= pixels.len() - at {
         let end = at + width;
         let n = pgm::line(&pixels[at..end], text);
-        if !put(&text[..n]) {
+        if !put(&mut console.output, &mut console.errors, &text[..n]) {
             return false;
         }
         at = end;
@@ -84,28 +91,33 @@ fn lines(pixels: &[i32], width: usize) -> bool
 }
 
 // Filtered rows as samples of the picture.
-fn samples(pixels: &[i32], w: u8) -> bool {
+fn samples<S, O: Write, E: Write>(console: &mut Console<S, O, E>, pixels: &[i32], w: u8) -> bool {
     let mut page = [0u8; 131072];
     let n = 2 * pgm::encode(pixels, w, &mut page);
-    put(&page[..n])
+    put(&mut console.output, &mut console.errors, &page[..n])
 }
 
 // A filtered row of levels as bytes.
-fn bytes(levels: &[i32]) -> bool {
+fn bytes<S, O: Write, E: Write>(console: &mut Console<S, O, E>, levels: &[i32]) -> bool {
     let mut line = [0u8; 1024];
     let n = pgm::encode_levels(levels, &mut line);
-    put(&line[..n])
+    put(&mut console.output, &mut console.errors, &line[..n])
 }
 
 // Filtered rows, this many at the start of the pixels; of levels one at most.
-pub fn rows(plan: Plan, pixels: &[i32], count: usize) -> bool
+pub fn rows<S, O: Write, E: Write>(
+    console: &mut Console<S, O, E>,
+    plan: Plan,
+    pixels: &[i32],
+    count: usize,
+) -> bool
     requires { Accepts plan.job }
 {
     let n = filtering::packed(count, plan.job.width, pixels.len());
     let form = plan.form;
     match form {
-        Form::Values => lines(&pixels[..n], plan.job.width as usize),
-        Form::Words(w) => samples(&pixels[..n], w),
-        Form::Bytes => bytes(&pixels[..n]),
+        Form::Values => lines(console, &pixels[..n], plan.job.width as usize),
+        Form::Words(w) => samples(console, &pixels[..n], w),
+        Form::Bytes => bytes(console, &pixels[..n]),
     }
 }

@@ -5,26 +5,27 @@ use crate::desk::Desk;
 use crate::words::{bytes, least, letter, long, number, numbers, wide};
 use layout::Table;
 use scan::Scan;
+use std::io::Write;
 
 // ---- the table and the numbers of the state
 
-fn loaded(file: &[u8]) -> Table {
+fn loaded<W: Write>(output: &mut W, file: &[u8]) -> Table {
     let l = table::load(file);
     let v = l.verdict;
-    answered::verdict(v);
-    answered::put_number(b", check ", table::table_check(file));
+    answered::verdict(output, v);
+    answered::put_number(output, b", check ", table::table_check(file));
     l.table
 }
 
-fn loaded_part(file: &[u8], k: usize) -> Table {
+fn loaded_part<W: Write>(output: &mut W, file: &[u8], k: usize) -> Table {
     let e = least(k, file.len());
-    loaded(&file[0..e])
+    loaded(output, &file[0..e])
 }
 
-fn load(n: &[u16], k: usize) -> Table {
+fn load<W: Write>(output: &mut W, n: &[u16], k: usize) -> Table {
     let mut file = [0u8; 256];
     bytes(n, &mut file);
-    loaded_part(&file, k)
+    loaded_part(output, &file, k)
 }
 
 fn with_table(s: Scan, t: Table) -> Scan {
@@ -47,33 +48,33 @@ fn set_state(n: &[u16], s: Scan) -> Scan {
     after
 }
 
-fn close(s: Scan) -> Scan {
+fn close<W: Write>(output: &mut W, s: Scan) -> Scan {
     let c = scan::close(s);
     let v = c.verdict;
-    answered::verdict(v);
+    answered::verdict(output, v);
     c.scan
 }
 
 // ---- the one-pixel call
 
-fn pixel_of(n: &[u16], t: Table, lent: &[u16]) {
+fn pixel_of<W: Write>(output: &mut W, n: &[u16], t: Table, lent: &[u16]) {
     let f = pixel::pixel(t, long(n, 0), lent, long(n, 1), long(n, 2));
-    answered::found(f);
+    answered::found(output, f);
 }
 
-fn pixel(n: &[u16], t: Table) {
+fn pixel<W: Write>(output: &mut W, n: &[u16], t: Table) {
     let e = least(long(n, 3), 1025) + 4;
     if e <= n.len() {
-        pixel_of(n, t, &n[4..e]);
+        pixel_of(output, n, t, &n[4..e]);
     }
 }
 
 // ---- the stores
 
-fn keep(n: &[u16], kept: &mut [u16]) {
+fn keep<W: Write>(output: &mut W, n: &[u16], kept: &mut [u16]) {
     let i = long(n, 0);
     if i < kept.len() {
-        answered::put_number(b" = ", wide(kept[i]));
+        answered::put_number(output, b" = ", wide(kept[i]));
         kept[i] = number(n, 1);
     }
 }
@@ -87,69 +88,98 @@ fn alter(n: &[u16], sums: &mut [u32]) {
 
 // ---- the scan
 
-fn begin(n: &[u16], s: Scan, kept: &mut [u16], sums: &mut [u32]) -> Scan {
+fn begin<W: Write>(output: &mut W, n: &[u16], s: Scan, kept: &mut [u16], sums: &mut [u32]) -> Scan {
     let b = scan::start(s.table, long(n, 0), kept, sums);
     let v = b.verdict;
-    answered::verdict(v);
+    answered::verdict(output, v);
     b.scan
 }
 
-fn row(s: Scan, given: &[u16], kept: &mut [u16], sums: &mut [u32], out: &mut [i32]) -> Scan {
+fn row<W: Write>(
+    output: &mut W,
+    s: Scan,
+    given: &[u16],
+    kept: &mut [u16],
+    sums: &mut [u32],
+    out: &mut [i32],
+) -> Scan {
     let m = scan::row(s, given, kept, sums, out);
     let a = m.answer;
-    answered::row(a, s.width, out);
+    answered::row(output, a, s.width, out);
     m.scan
 }
 
-fn step(s: Scan, kept: &mut [u16], sums: &mut [u32], out: &mut [i32]) -> Scan {
+fn step<W: Write>(
+    output: &mut W,
+    s: Scan,
+    kept: &mut [u16],
+    sums: &mut [u32],
+    out: &mut [i32],
+) -> Scan {
     let m = scan::step(s, kept, sums, out);
     let a = m.answer;
-    answered::step(a, s.width, out);
+    answered::step(output, a, s.width, out);
     m.scan
 }
 
 // ---- which command
 
 // table, empty, numbers, close
-fn alone(x: u8, n: &[u16], k: usize, s: Scan) -> Scan {
+fn alone<W: Write>(output: &mut W, x: u8, n: &[u16], k: usize, s: Scan) -> Scan {
     match x {
-        b't' => with_table(s, load(n, k)),
+        b't' => with_table(s, load(output, n, k)),
         b'e' => empty(s),
         b'n' => set_state(n, s),
-        b'c' => close(s),
+        b'c' => close(output, s),
         _ => s,
     }
 }
 
 // keep, alter
-fn stored(x: u8, n: &[u16], kept: &mut [u16], sums: &mut [u32]) {
+fn stored<W: Write>(output: &mut W, x: u8, n: &[u16], kept: &mut [u16], sums: &mut [u32]) {
     match x {
-        b'k' => keep(n, kept),
+        b'k' => keep(output, n, kept),
         b'a' => alter(n, sums),
         _ => {}
     }
 }
 
 // begin, keep, alter
-fn set(x: u8, n: &[u16], s: Scan, kept: &mut [u16], sums: &mut [u32]) -> Scan {
+fn set<W: Write>(
+    output: &mut W,
+    x: u8,
+    n: &[u16],
+    s: Scan,
+    kept: &mut [u16],
+    sums: &mut [u32],
+) -> Scan {
     if x == b'b' {
-        return begin(n, s, kept, sums);
+        return begin(output, n, s, kept, sums);
     }
-    stored(x, n, kept, sums);
+    stored(output, x, n, kept, sums);
     s
 }
 
 // row, step, and those above
-fn moved(x: u8, n: &[u16], s: Scan, kept: &mut [u16], sums: &mut [u32], out: &mut [i32]) -> Scan {
+fn moved<W: Write>(
+    output: &mut W,
+    x: u8,
+    n: &[u16],
+    s: Scan,
+    kept: &mut [u16],
+    sums: &mut [u32],
+    out: &mut [i32],
+) -> Scan {
     match x {
-        b'r' => row(s, n, kept, sums, out),
-        b's' => step(s, kept, sums, out),
-        _ => set(x, n, s, kept, sums),
+        b'r' => row(output, s, n, kept, sums, out),
+        b's' => step(output, s, kept, sums, out),
+        _ => set(output, x, n, s, kept, sums),
     }
 }
 
 // The same with the numbers of the line, and this many places of the output.
-fn moved_part(
+fn moved_part<W: Write>(
+    output: &mut W,
     x: u8,
     n: &[u16],
     k: usize,
@@ -161,14 +191,31 @@ fn moved_part(
     let mut out = [0i32; 8];
     let e = least(k, n.len());
     let c = least(places, 8);
-    moved(x, &n[0..e], s, kept, sums, &mut out[0..c])
+    moved(output, x, &n[0..e], s, kept, sums, &mut out[0..c])
 }
 
 // The same with the lent parts of the stores.
-fn lend(x: u8, n: &[u16], k: usize, d: Desk, kept: &mut [u16], sums: &mut [u32]) -> Scan {
+fn lend<W: Write>(
+    output: &mut W,
+    x: u8,
+    n: &[u16],
+    k: usize,
+    d: Desk,
+    kept: &mut [u16],
+    sums: &mut [u32],
+) -> Scan {
     let a = least(d.samples, kept.len());
     let b = least(d.sums, sums.len());
-    moved_part(x, n, k, d.scan, d.out, &mut kept[0..a], &mut sums[0..b])
+    moved_part(
+        output,
+        x,
+        n,
+        k,
+        d.scan,
+        d.out,
+        &mut kept[0..a],
+        &mut sums[0..b],
+    )
 }
 
 fn hold(n: &[u16], d: Desk) -> Desk {
@@ -180,31 +227,45 @@ fn hold(n: &[u16], d: Desk) -> Desk {
 }
 
 // hold, pixel
-fn seen(x: u8, n: &[u16], d: Desk) -> Desk {
+fn seen<W: Write>(output: &mut W, x: u8, n: &[u16], d: Desk) -> Desk {
     if x == b'h' {
         return hold(n, d);
     }
     if x == b'p' {
         let s = d.scan;
-        pixel(n, s.table);
+        pixel(output, n, s.table);
     }
     d
 }
 
-fn obey(x: u8, n: &[u16], k: usize, d: Desk, kept: &mut [u16], sums: &mut [u32]) -> Desk {
-    let s = lend(x, n, k, d, kept, sums);
+fn obey<W: Write>(
+    output: &mut W,
+    x: u8,
+    n: &[u16],
+    k: usize,
+    d: Desk,
+    kept: &mut [u16],
+    sums: &mut [u32],
+) -> Desk {
+    let s = lend(output, x, n, k, d, kept, sums);
     let mut after = d;
-    after.scan = alone(x, n, k, s);
-    seen(x, n, after)
+    after.scan = alone(output, x, n, k, s);
+    seen(output, x, n, after)
 }
 
 // A line: written, done, and its answer written after it.
-pub fn command(line: &[u8], d: Desk, kept: &mut [u16], sums: &mut [u32]) -> Desk {
-    answered::put(line);
+pub fn command<W: Write>(
+    output: &mut W,
+    line: &[u8],
+    d: Desk,
+    kept: &mut [u16],
+    sums: &mut [u32],
+) -> Desk {
+    answered::put(output, line);
     let x = letter(line);
     let mut at = [0u16; 2048];
     let k = numbers(line, x == b't', &mut at);
-    let after = obey(x, &at, k, d, kept, sums);
-    answered::put(b"\n");
+    let after = obey(output, x, &at, k, d, kept, sums);
+    answered::put(output, b"\n");
     after
 }

@@ -31,8 +31,9 @@ mod words;
 ghost use Rattle.std.specs.Prelude.{◌≤◌, length};
 
 use desk::Desk;
-use libc::STDIN_FILENO;
 use ranked::RankDesk;
+use std::io::Write;
+use streams::gather;
 use words::letter;
 
 // What the commands are tried on.
@@ -70,7 +71,8 @@ fn capital(line: &[u8]) -> bool {
 }
 
 // A line, on the filter's stores and those of the ranked scan.
-fn obey(
+fn obey<W: Write>(
+    output: &mut W,
     line: &[u8],
     d: Desks,
     kept: &mut [u16],
@@ -81,16 +83,16 @@ fn obey(
 ) -> Desks {
     let mut after = d;
     if capital(line) {
-        let r = ranked::command(line, d.ranked, samples, counts, windows);
+        let r = ranked::command(output, line, d.ranked, samples, counts, windows);
         after.ranked = r;
     } else {
-        let s = commands::command(line, d.scan, kept, sums);
+        let s = commands::command(output, line, d.scan, kept, sums);
         after.scan = s;
     }
     after
 }
 
-fn all(text: &[u8]) {
+fn all<W: Write>(output: &mut W, text: &[u8]) {
     let mut kept = [0u16; 32768];
     let mut sums = [0u32; 1024];
     let mut samples = [0u16; 256];
@@ -101,6 +103,7 @@ fn all(text: &[u8]) {
     while start < text.len() {
         let end = line_end(text, start);
         d = obey(
+            output,
             &text[start..end],
             d,
             &mut kept,
@@ -113,8 +116,9 @@ fn all(text: &[u8]) {
     }
 }
 
-fn main() {
+fn main(rt: HostRuntime) {
     let mut text = [0u8; 16384];
-    let n = io::read_full(STDIN_FILENO, &mut text);
-    all(&text[..n]);
+    let got = gather(&mut rt.stdin(), &mut text, 0, 16384, 16384);
+    let n = got.end;
+    all(&mut rt.stdout(), &text[..n]);
 }

@@ -3,6 +3,7 @@ use crate::answered;
 use crate::words::{byte, least, letter, long, number, numbers, wide};
 use arith::signed_byte;
 use rank::{RankScan, Window};
+use std::io::Write;
 
 // A ranked scan, and how many places of its three stores and of the output are lent to a call.
 #[derive(Clone, Copy)]
@@ -65,27 +66,40 @@ fn hold(n: &[u16], d: RankDesk) -> RankDesk {
 }
 
 // A place of a store set by hand; answers what stood there.
-fn alter(n: &[u16], store: &mut [u16]) {
+fn alter<W: Write>(output: &mut W, n: &[u16], store: &mut [u16]) {
     let i = long(n, 0);
     if i < store.len() {
-        answered::put_number(b" = ", wide(store[i]));
+        answered::put_number(output, b" = ", wide(store[i]));
         store[i] = number(n, 1);
     }
 }
 
 // Keep, Alter, Window
-fn stored(x: u8, n: &[u16], samples: &mut [u16], counts: &mut [u16], windows: &mut [u16]) {
+fn stored<W: Write>(
+    output: &mut W,
+    x: u8,
+    n: &[u16],
+    samples: &mut [u16],
+    counts: &mut [u16],
+    windows: &mut [u16],
+) {
     match x {
-        b'K' => alter(n, samples),
-        b'A' => alter(n, counts),
-        b'W' => alter(n, windows),
+        b'K' => alter(output, n, samples),
+        b'A' => alter(output, n, counts),
+        b'W' => alter(output, n, windows),
         _ => {}
     }
 }
 
 // ---- the calls
 
-fn begin(n: &[u16], samples: &mut [u16], counts: &mut [u16], windows: &mut [u16]) -> RankScan {
+fn begin<W: Write>(
+    output: &mut W,
+    n: &[u16],
+    samples: &mut [u16],
+    counts: &mut [u16],
+    windows: &mut [u16],
+) -> RankScan {
     let b = rank::start(
         byte(n, 0),
         window(n),
@@ -96,18 +110,19 @@ fn begin(n: &[u16], samples: &mut [u16], counts: &mut [u16], windows: &mut [u16]
         windows,
     );
     let v = b.verdict;
-    answered::verdict(v);
+    answered::verdict(output, v);
     b.scan
 }
 
-fn close(s: RankScan) -> RankScan {
+fn close<W: Write>(output: &mut W, s: RankScan) -> RankScan {
     let c = rank::close(s);
     let v = c.verdict;
-    answered::verdict(v);
+    answered::verdict(output, v);
     c.scan
 }
 
-fn row(
+fn row<W: Write>(
+    output: &mut W,
     s: RankScan,
     given: &[u16],
     samples: &mut [u16],
@@ -117,11 +132,12 @@ fn row(
 ) -> RankScan {
     let m = rank::row(s, given, samples, counts, windows, out);
     let a = m.answer;
-    answered::row(a, s.width, out);
+    answered::row(output, a, s.width, out);
     m.scan
 }
 
-fn step(
+fn step<W: Write>(
+    output: &mut W,
     s: RankScan,
     samples: &mut [u16],
     counts: &mut [u16],
@@ -130,14 +146,15 @@ fn step(
 ) -> RankScan {
     let m = rank::step(s, samples, counts, windows, out);
     let a = m.answer;
-    answered::step(a, s.width, out);
+    answered::step(output, a, s.width, out);
     m.scan
 }
 
 // ---- which command
 
 // Begin, Close, Numbers, and those on a store
-fn set(
+fn set<W: Write>(
+    output: &mut W,
     x: u8,
     n: &[u16],
     s: RankScan,
@@ -146,18 +163,19 @@ fn set(
     windows: &mut [u16],
 ) -> RankScan {
     match x {
-        b'B' => begin(n, samples, counts, windows),
-        b'C' => close(s),
+        b'B' => begin(output, n, samples, counts, windows),
+        b'C' => close(output, s),
         b'N' => set_state(n, s),
         _ => {
-            stored(x, n, samples, counts, windows);
+            stored(output, x, n, samples, counts, windows);
             s
         }
     }
 }
 
 // Row, Step, and those above
-fn moved(
+fn moved<W: Write>(
+    output: &mut W,
     x: u8,
     n: &[u16],
     d: RankDesk,
@@ -168,14 +186,15 @@ fn moved(
     let mut out = [0i32; 8];
     let c = least(d.out, 8);
     match x {
-        b'R' => row(d.scan, n, samples, counts, windows, &mut out[0..c]),
-        b'S' => step(d.scan, samples, counts, windows, &mut out[0..c]),
-        _ => set(x, n, d.scan, samples, counts, windows),
+        b'R' => row(output, d.scan, n, samples, counts, windows, &mut out[0..c]),
+        b'S' => step(output, d.scan, samples, counts, windows, &mut out[0..c]),
+        _ => set(output, x, n, d.scan, samples, counts, windows),
     }
 }
 
 // The same with the numbers of the line and the lent parts of the stores.
-fn lend(
+fn lend<W: Write>(
+    output: &mut W,
     x: u8,
     n: &[u16],
     d: RankDesk,
@@ -187,6 +206,7 @@ fn lend(
     let j = least(d.counts, counts.len());
     let k = least(d.windows, windows.len());
     moved(
+        output,
         x,
         n,
         d,
@@ -197,21 +217,22 @@ fn lend(
 }
 
 // A line: written, done, and its answer written after it.
-pub fn command(
+pub fn command<W: Write>(
+    output: &mut W,
     line: &[u8],
     d: RankDesk,
     samples: &mut [u16],
     counts: &mut [u16],
     windows: &mut [u16],
 ) -> RankDesk {
-    answered::put(line);
+    answered::put(output, line);
     let x = letter(line);
     let mut at = [0u16; 2048];
     let k = numbers(line, x == b'B', &mut at);
     let e = least(k, 2048);
     let mut after = if x == b'H' { hold(&at, d) } else { d };
-    let s = lend(x, &at[0..e], after, samples, counts, windows);
+    let s = lend(output, x, &at[0..e], after, samples, counts, windows);
     after.scan = s;
-    answered::put(b"\n");
+    answered::put(output, b"\n");
     after
 }

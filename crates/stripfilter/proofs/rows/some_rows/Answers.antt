@@ -7,17 +7,17 @@ use Rattle.stripfilter.proofs.Bounds.{decoded_in, first_in, whole_in}
 use Rattle.stripfilter.proofs.rows.some_rows.Goals as goal
 
 pub slice_bounds-space-end : goal.slice_bounds-space-end
-slice_bounds-space-end c = let d = decoded_in _ _ _ _ c.decode-n.ensures.value in
+slice_bounds-space-end g c = let d = decoded_in _ _ _ _ c.decode-n.ensures.value in
     let k = c.decode-n.auto.out in
     omega arith
 
 pub slice_bounds-first_above-end : goal.slice_bounds-first_above-end
-slice_bounds-first_above-end c = let d = decoded_in _ _ _ _ c.decode-n.ensures.value in
+slice_bounds-first_above-end g c = let d = decoded_in _ _ _ _ c.decode-n.ensures.value in
     let k = c.decode-n.auto.out in
     sym (length-take-le _ _ (omega arith))
 
 pub slice_bounds-space-end-2 : goal.slice_bounds-space-end-2
-slice_bounds-space-end-2 c = let d = decoded_in _ _ _ _ c.decode-n.ensures.value in
+slice_bounds-space-end-2 g c = let d = decoded_in _ _ _ _ c.decode-n.ensures.value in
     let k = c.decode-n.auto.out in
     let p = first_in _ _ _ c.first_above-place.ensures in
     let w = whole_in _ _ _ c.whole_part-good.ensures in
@@ -25,7 +25,7 @@ slice_bounds-space-end-2 c = let d = decoded_in _ _ _ _ c.decode-n.ensures.value
     omega arith
 
 pub slice_bounds-rows-end : goal.slice_bounds-rows-end
-slice_bounds-rows-end c = let d = decoded_in _ _ _ _ c.decode-n.ensures.value in
+slice_bounds-rows-end g c = let d = decoded_in _ _ _ _ c.decode-n.ensures.value in
     let k = c.decode-n.auto.out in
     let p = first_in _ _ _ c.first_above-place.ensures in
     let w = whole_in _ _ _ c.whole_part-good.ensures in

@@ -1,11 +1,5 @@
 -- One step fewer each turn.
--- Assumes nothing.
-use mathlib.Core.Path.{◌≡◌}
-use lib.ListN.{length}
 use Rattle.stripfilter.proofs.rows.steps.Given as goal
 
-abbrev pub invariant-loop-left : goal.invariant-loop-left
-invariant-loop-left l = (length l.samples ≡ length l.initial.samples) × (length l.sums ≡ length l.initial.sums)
-
 abbrev pub decreases-loop-left : goal.decreases-loop-left
-decreases-loop-left l = l.left
+decreases-loop-left g l = l.left
