@@ -6,7 +6,7 @@
 #:
 #: To try it
 #:   make test       the gate: every crate proved, every must-fail edit refused, every program run, and all of the next six; from nothing
-#:                   45 minutes or so on four cores
+#:                   40 minutes or so on four cores
 #:   make examples   the header compiled as C and C++, the C examples run
 #:   make python     the Python module beside a filter in plain Python
 #:   make outside    the library, through its C interface, and the fitter's programs beside what was written separately from the rules

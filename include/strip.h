@@ -10,9 +10,8 @@
  *
  * examples/scan.c has a whole scan in a page; docs/RULES.md has the rules behind every number here.
  *
- * Link with libstrip.a, or with libstrip.so, which offers the calls below and no other name. Both are for x86-64, the one machine that the
- * kit compiles for; they need memcpy and memset and nothing else, allocate nothing and keep nothing between calls, so that calls on
- * different scans may run side by side.
+ * Link with libstrip.a, or with libstrip.so, which offers the calls below and no other name. Both are for x86-64, any of them; they need
+ * memcpy and memset and nothing else, allocate nothing and keep nothing between calls, so that calls on different scans may run side by side.
  *
  * What holds of every call:
  *   - It accepts any numbers. Questions are asked in a fixed order, and the first no ends the call with that question's number and a

@@ -12,6 +12,7 @@ for name; do
         run) (cd "crates/$name" && rt run </dev/null >/dev/null 2>>"$log") && cp "crates/$name/out/$name" build/bin/ ;;
         # the header promises any x86-64
         lib) (cd "crates/$name" && rt lib --cpu x86-64 >>"$log" 2>&1) ;;
+        *) echo "prove.sh GOAL run|lib NAME.."; exit 2 ;;
     esac || { tail -n 20 "$log"; echo "rt $verb in crates/$name failed; all that it said is in $log"; exit 1; }
     echo "  $name proved"
 done

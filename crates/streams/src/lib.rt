@@ -102,7 +102,7 @@ fn nothing(why: io::Error) -> Got
     }
 }
 
-// The same, where nothing is said. std's paths are text.
+// Reads as `file` does, and says nothing. std's paths are text.
 fn open_and_gather<R: Files>(rt: &R, path: &[u8], store: &mut [u8], most: usize) -> Got
     requires { most ≤ length store.old }
     ensures { result.end ≤ most }

@@ -23,17 +23,11 @@ within o s {o1} {b} e f = go (leb (0 + length s) (length o)) refl
 
 pub returns-clause-value : goal.returns-clause-value
 unfolding ascii
-returns-clause-value c =
-    let e = c.put_bytes.ensures in
-    let h = within _ _ e.value e.out_after in
-    e.value
+returns-clause-value c = c.put_bytes.ensures.value
 
 pub returns-clause-name_after : goal.returns-clause-name_after
 unfolding ascii
-returns-clause-name_after c =
-    let e = c.put_bytes.ensures in
-    let h = within _ _ e.value e.out_after in
-    e.out_after
+returns-clause-name_after c = c.put_bytes.ensures.out_after
 
 pub returns-clause-prefix_len : goal.returns-clause-prefix_len
 unfolding ascii

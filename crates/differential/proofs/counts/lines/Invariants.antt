@@ -1,4 +1,4 @@
--- Writes the counts with their names: the loop runs eighteen times.
+-- Writes the counts with their names: the loop runs nineteen times.
 -- Assumes nothing.
 use Rattle.std.proofs.Common.{◌-◌, ◌≤◌}
 use Rattle.differential.proofs.counts.lines.Given as goal
