@@ -1,5 +1,5 @@
 #: To use it
-#:   make run        filters the strips under scans/ and lists Table A; proves the programs first, ten minutes or so once
+#:   make run        filters the strips under scans/ and lists Table A; proves the programs first, some 8 minutes on four cores, once
 #:   make lib        build/libstrip.a, build/libstrip.so and build/strip.h, for C
 #:   make install    header, libraries, strip.pc and programs under PREFIX (/usr/local), behind DESTDIR where it is given
 #:   make uninstall  takes them away again
