@@ -13,7 +13,7 @@ if [ "$(cat "$log.status")" -ne 0 ]; then
     echo "$last"
     exit 1
 fi
-# `rt ci` passes with edits that it could not try: each must-fail edit is refused, and none is bad
+# `rt ci` passes with edits that it could not try, and with those that a proof file alone refuses: each is refused at a fact, and none is bad
 ok=$(grep '^rt: ok;' "$log")
 edits=$(find crates/*/must-fail -name '*.edit' | wc -l)
 case $ok in
@@ -21,6 +21,10 @@ case $ok in
     *) echo "not all of the $edits must-fail edits are refused: $ok"; exit 1 ;;
 esac
 case $ok in *", "[0-9]*" bad"*) echo "a must-fail edit is bad: $ok"; exit 1 ;; esac
+if grep '^rt: must-fail .*(only because a proof file names' "$log"; then
+    echo "a must-fail edit is refused only at the shape of a proof"
+    exit 1
+fi
 make --no-print-directory programs examples python installed stack outside || { echo "what stands around the crates failed"; exit 1; }
 python3 scripts/passes.py || exit 1
 echo "$last"
