@@ -30,11 +30,11 @@
  *
  * Stack: the most bytes that a call takes, whatever its table and width, with what it is handed and hands back by value. bench/stack.c
  * measures it with gcc on x86-64, and the gate holds this list to what it measures.
- *   strip_table_check    1,536      strip_scan_start     1,280      strip_rank_start       256
- *   strip_table_load     1,536      strip_scan_row      19,200      strip_rank_row       4,864
- *   strip_table_write      768      strip_scan_rows     19,456      strip_rank_step      4,864
- *   strip_pixel          1,024      strip_scan_step     18,688      strip_rank_close       256
- *   strip_same           1,024      strip_scan_close     1,280
+ *   strip_table_check    1,024      strip_scan_start     1,024      strip_rank_start       256
+ *   strip_table_load     1,280      strip_scan_row      16,384      strip_rank_row       4,864
+ *   strip_table_write      768      strip_scan_rows     16,896      strip_rank_step      4,864
+ *   strip_pixel          1,024      strip_scan_step     16,128      strip_rank_close       256
+ *   strip_same           1,280      strip_scan_close     1,280
  */
 #ifndef STRIP_H
 #define STRIP_H

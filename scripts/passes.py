@@ -13,7 +13,7 @@ import os
 import subprocess
 import sys
 
-CRATES = ["arith", "ring", "rule", "passes", "arrival", "engine", "scan", "levels", "histograms", "rank"]
+CRATES = ["arith", "ring", "rule", "passes", "arrival", "engine", "machine", "scan", "levels", "histograms", "rank"]
 # loops over rectangles: each finds the rows that its edges reach, then runs passes
 OVER_RECTANGLES = {"engine::rows::values", "engine::rows::roll_back_first"}
 ROOT = os.path.dirname(os.path.dirname(os.path.abspath(__file__)))

@@ -1,17 +1,9 @@
 -- Laws of `all`.
 -- Assumes nothing.
-use Prim.Native.Nat.{ℕ, zero, suc, ◌+◌, ◌^◌, ◌<◌}
-use native.Mathlib.Omega.{arith}
-use native.Mathlib.Numerals.{add-one}
-use native.Mathlib.Nat.{le_step, lt-suc_self, le-suc_iff, suc_inj, not-suc-le-zero}
-use mathlib.Core.Path.{◌≡◌, refl, sym, subst, ap₂, ◌∙◌}
-use mathlib.Core.Logic.{⊎_elim}
-use mathlib.Core.Bool.{Bool, false, ◌&&◌}
+use Rattle.std.proofs.Common.{ℕ, zero, suc, ◌+◌, ◌^◌, ◌<◌, arith, add-one, lt-suc_self, not-suc-le-zero, ◌≡◌, refl, sym, subst, ap₂, ◌∙◌, ⊎_elim, Bool, false, ◌&&◌, T, ltb, lt→ltb, ltb→lt, pow_pos, lt-ltb}
+use Rattle.std.proofs.Math.Nat.{le_step, le-suc_iff, suc_inj}
+use Rattle.std.proofs.Math.Facts.{and_yes, yes_and}
 use lib.Bits.{bit_or, or_lt, or_add_and, and_le_l, and_le_r}
-use lib.Dec.{T, ltb, lt→ltb, ltb→lt}
-use lib.Pow.{pow_pos}
-use mir.Facts.{and_yes, yes_and}
-use borrow.Author.Tests.{lt-ltb}
 use Rattle.arith.specs.All.{all}
 use Rattle.arith.proofs.Bools.{bool_eq}
 

@@ -1,9 +1,7 @@
 -- Laws of tests.
 -- Assumes nothing.
-use mathlib.Core.Path.{◌≡◌, refl, sym, ◌∙◌}
-use mathlib.Core.Bool.{Bool, true, false, not, ◌||◌}
-use lib.Dec.{T}
-use borrow.Author.Tests.{not-true, not-false}
+use Rattle.std.proofs.Common.{◌≡◌, refl, sym, ◌∙◌, Bool, true, false, not, ◌||◌, T}
+use Rattle.std.proofs.lemmas.Bool.{not-true, not-false}
 
 -- two tests that hold together are equal
 pub bool_eq : (a b : Bool) → (T a → T b) → (T b → T a) → a ≡ b

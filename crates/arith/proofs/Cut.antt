@@ -1,13 +1,10 @@
 -- Quotients: truncation by a power of two, and how much a store holds.
 -- Assumes nothing.
-use Prim.Native.Nat.{ℕ, zero, suc, ◌+◌, ◌-◌, ◌*◌, ◌/◌, ◌%◌, ◌^◌, ◌≤◌, ◌<◌}
-use native.Mathlib.Nat.{div-add-mod, mod-lt, div-mul-le_self, lt-div-mul-add, mul-le-mul_left}
-use native.Mathlib.Omega.{arith}
-use lib.Pow.{pow_pos, le_ones}
-use mathlib.Core.Path.{◌≡◌}
-use mathlib.Core.Bool.{Bool, true, false, not}
-use lib.Dec.{T, leb, leb→le, nleb→lt}
-use borrow.Author.Tests.{le-leb, lt-leb}
+use Rattle.std.proofs.Common.{ℕ, zero, suc, ◌+◌, ◌-◌, ◌*◌, ◌/◌, ◌%◌, ◌^◌, ◌≤◌, ◌<◌, mod-lt, div-mul-le_self, mul-le-mul_left, arith, pow_pos, ◌≡◌, Bool, true, false, not, T, leb, leb→le, le-leb}
+use Rattle.std.proofs.Math.Nat.{div-add-mod, lt-div-mul-add}
+use Rattle.std.proofs.Math.Pow.{le_ones}
+use Rattle.std.proofs.Math.Dec.{nleb→lt}
+use Rattle.std.proofs.lemmas.Bool.{lt-leb}
 use Rattle.arith.specs.Sum.{sum}
 
 -- a remainder by 2^q is at most 2^q - 1

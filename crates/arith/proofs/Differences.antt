@@ -1,14 +1,10 @@
 -- The difference of two unsigned words as a signed one.
 -- Assumes nothing.
-use Prim.Native.Nat.{ℕ, ◌^◌, ◌<◌}
-use native.Mathlib.Nat.{lt_of_lt_of_le}
-use native.Mathlib.Omega.{arith}
-use mathlib.Core.Path.{◌≡◌, ◌∙◌}
-use lib.Dec.{lit≤}
-use lib.IntN.{sub_ℕ, ◌-ℤ◌}
+use Rattle.std.proofs.Common.{ℕ, ◌^◌, ◌<◌, lt_of_lt_of_le, arith, ◌≡◌, ◌∙◌, lit≤, ◌-ℤ◌, to_z-of_z}
+use Rattle.std.proofs.Math.IntN.{sub_ℕ}
+use Rattle.std.proofs.Math.Facts.{to_z_pos}
 use mir.Syntax.{w64}
 use mir.Val.{SFits, to_z, of_z}
-use mir.Facts.{to_z-of_z, to_z_pos}
 use Rattle.arith.proofs.Ints.{diff_pos, diff_sub, diff_minus, diff_eq, diff_size}
 
 module _ (p n : ℕ) (hp : p < 2 ^ 62) (hn : n < 2 ^ 62) where

@@ -1,12 +1,6 @@
 -- Laws of `first_not`.
 -- Assumes nothing.
-use Prim.Native.Nat.{ℕ, zero, suc, ◌+◌, ◌-◌, ◌≤◌, ◌<◌, zero-le}
-use native.Mathlib.Nat.{not-suc-le-zero}
-use native.Mathlib.Omega.{arith}
-use mathlib.Core.Path.{◌≡◌, refl, sym, ap, ap₂, ◌∙◌, subst}
-use mathlib.Core.Bool.{Bool, true, false, not, cond}
-use mathlib.Core.Logic.{◌⊎◌, ⊎_elim}
-use lib.Dec.{T, ltb, ltb→lt, nltb→le}
+use Rattle.std.proofs.Common.{ℕ, zero, suc, ◌+◌, ◌-◌, ◌≤◌, ◌<◌, zero-le, not-suc-le-zero, arith, ◌≡◌, refl, sym, ap, ap₂, ◌∙◌, subst, Bool, true, false, not, cond, ◌⊎◌, ⊎_elim, T, ltb, ltb→lt, nltb→le}
 use Rattle.arith.specs.All.{all}
 use Rattle.arith.specs.First.{first_not}
 use Rattle.arith.proofs.Alls.{all_fails, all_of}

@@ -1,13 +1,9 @@
 -- Floor division by a power of two: the largest whole number that times 2^t is not above z, monotone, no larger in size.
 -- Assumes nothing.
-use Prim.Native.Nat.{ℕ, ◌/◌, ◌^◌, ◌<◌}
-use native.Mathlib.Nat.{div-mul-le_self, lt-div-mul-add, div-eq_of_lt}
-use native.Mathlib.Omega.{arith}
-use mathlib.Core.Path.{◌≡◌, sym, ap, ◌∙◌}
-use lib.Dec.{le→leb, leb→le}
-use lib.Pow.{pow_pos, shr_mono}
-use lib.IntN.{ℤ, pos, negsuc, ◌+ℤ◌, ◌*ℤ◌}
-use lib.Signed.{◌≤ℤ◌, ◌<ℤ◌, mag}
+use Rattle.std.proofs.Common.{ℕ, ◌/◌, ◌^◌, ◌<◌, div-mul-le_self, arith, ◌≡◌, sym, ap, ◌∙◌, le→leb, leb→le, pow_pos, ℤ, pos, negsuc, ◌+ℤ◌, ◌*ℤ◌, ◌≤ℤ◌, ◌<ℤ◌}
+use Rattle.std.proofs.Math.Nat.{lt-div-mul-add, div-eq_of_lt}
+use Rattle.std.proofs.Math.Pow.{shr_mono}
+use Rattle.std.specs.Int.Signed.{mag}
 use Rattle.arith.specs.Floor.{floor_div}
 use Rattle.arith.proofs.Ints.{diff_pos, diff_parts, diff_scale, diff_add, diff_le, diff_lt}
 

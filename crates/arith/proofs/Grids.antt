@@ -1,14 +1,8 @@
 -- A store of whole lines: what a pass over lines has reached, and what not.
 -- Assumes nothing.
-use Prim.Native.Nat.{ℕ, zero, suc, ◌+◌, ◌-◌, ◌*◌, ◌≤◌, ◌<◌}
-use native.Mathlib.Nat.{le_step, lt-suc_self, le-suc_iff, suc_inj, not-suc-le-zero, zero-mul}
-use native.Mathlib.Numerals.{add-one}
-use native.Mathlib.Omega.{arith}
-use mathlib.Core.Path.{◌≡◌, refl, sym, ap, ap₂, ◌∙◌}
-use mathlib.Core.Logic.{⊎_elim}
-use mathlib.Core.List.{List, ◌++◌, append_assoc}
-use lib.ListN.{length, get_or, take, drop, length-append, length-drop, get_or-append}
-use lib.Seq.{get_or-append-add, get_or-drop, take_at, drop_at, drop-drop}
+use Rattle.std.proofs.Common.{ℕ, zero, suc, ◌+◌, ◌-◌, ◌*◌, ◌≤◌, ◌<◌, lt-suc_self, not-suc-le-zero, zero-mul, add-one, arith, ◌≡◌, refl, sym, ap, ap₂, ◌∙◌, ⊎_elim, List, ◌++◌, append_assoc, length, get_or, take, drop, length-append, length-drop, get_or-append-add, get_or-drop, take_at, drop_at, drop-drop}
+use Rattle.std.proofs.Math.Nat.{le_step, le-suc_iff, suc_inj}
+use Rattle.std.proofs.Math.ListN.{get_or-append}
 use borrow.Rule.Slice.PartMut.{put_mid, put_same}
 use Rattle.arith.specs.Tab.{tab, grid, paste}
 use Rattle.arith.proofs.Tabs.{tab_cong, get_or-tab, length-tab}

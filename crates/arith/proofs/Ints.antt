@@ -1,15 +1,11 @@
 -- Integers as differences of naturals. `Diff z p n` says that z is p - n; by its laws a fact on ℤ is one on ℕ.
 -- Assumes nothing.
-use Prim.Native.Nat.{ℕ, zero, suc, ◌+◌, ◌-◌, ◌*◌, ◌≤◌, ◌<◌}
-use native.Mathlib.Omega.{arith}
-use native.Mathlib.Nat.{lt-suc_self, le_step}
-use mathlib.Core.Path.{◌≡◌, refl, sym, ap, ◌∙◌, subst}
-use mathlib.Core.Bool.{Bool, true, false, not, cond}
-use lib.Dec.{T, ltb, leb, eqb, ltb→lt, nltb→le, leb→le, le→leb, lt→ltb, eqb→eq, eqb_refl}
-use lib.IntN.{ℤ, pos, negsuc, neg_ℤ, sub_ℕ, ◌+ℤ◌, ◌-ℤ◌, ◌*ℤ◌}
-use lib.Signed.{◌≤ℤ◌, ◌<ℤ◌, le_z, lt_z, mag}
-use mir.Facts.{and_yes, yes_and}
-use borrow.Author.Tests.{lt-ltb, le-ltb, eq-eqb}
+use Rattle.std.proofs.Common.{ℕ, zero, suc, ◌+◌, ◌-◌, ◌*◌, ◌≤◌, ◌<◌, arith, lt-suc_self, ◌≡◌, refl, sym, ap, ◌∙◌, subst, Bool, true, false, not, cond, T, ltb, leb, eqb, ltb→lt, nltb→le, leb→le, le→leb, lt→ltb, eqb→eq, ℤ, pos, negsuc, neg_ℤ, ◌+ℤ◌, ◌-ℤ◌, ◌*ℤ◌, ◌≤ℤ◌, ◌<ℤ◌, lt-ltb, le-ltb, eq-eqb}
+use Rattle.std.proofs.Math.Nat.{le_step}
+use Rattle.std.proofs.Math.Dec.{eqb_refl}
+use Rattle.std.proofs.Math.IntN.{sub_ℕ}
+use Rattle.std.specs.Int.Signed.{le_z, lt_z, mag}
+use Rattle.std.proofs.Math.Facts.{and_yes, yes_and}
 use Rattle.arith.proofs.Bools.{bool_eq}
 use Rattle.arith.specs.Sum.{sum, sum_ℤ}
 use Rattle.arith.specs.Diff.{Diff}

@@ -14,6 +14,7 @@ pub mod Every
 pub mod Logs
 pub mod Parts
 pub mod Bias
+pub mod Std
 pub mod Pastes
 pub mod Grids
 pub mod Residues

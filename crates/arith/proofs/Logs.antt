@@ -1,14 +1,8 @@
 -- The rule of the table of ⟨log2 n⟩: one test that is computed over all entries, and the rule at each.
 -- Assumes nothing.
-use Prim.Native.Nat.{ℕ, zero, suc, ◌-◌, ◌^◌, ◌≤◌, ◌<◌}
-use native.Mathlib.Nat.{lt_irrefl}
-use native.Mathlib.Omega.{arith}
-use mathlib.Core.Bool.{Bool, ◌&&◌}
-use mathlib.Core.Path.{◌≡◌, refl}
-use lib.Dec.{T, leb, ltb, eqb, leb→le, ltb→lt, eqb→eq}
-use lib.ListN.{get_or, length, get_or-eq_default}
-use lib.Pow.{pow_pos}
-use mir.Facts.{and_yes}
+use Rattle.std.proofs.Common.{ℕ, zero, suc, ◌-◌, ◌^◌, ◌≤◌, ◌<◌, lt_irrefl, arith, Bool, ◌&&◌, ◌≡◌, refl, T, leb, ltb, eqb, leb→le, ltb→lt, eqb→eq, get_or, length, pow_pos}
+use Rattle.std.proofs.Math.ListN.{get_or-eq_default}
+use Rattle.std.proofs.Math.Facts.{and_yes}
 use Rattle.arith.specs.Log.{logs, log2up, LogRule}
 use Rattle.arith.proofs.Every.{every, at}
 

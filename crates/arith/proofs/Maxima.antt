@@ -1,10 +1,7 @@
 -- Laws of `largest`.
 -- Assumes nothing.
-use Prim.Native.Nat.{ℕ, zero, suc, max, ◌≤◌, ◌<◌, zero-le}
-use native.Mathlib.Nat.{le_step, lt-suc_self, le-suc_iff, suc_inj, not-suc-le-zero}
-use native.Mathlib.Omega.{arith}
-use mathlib.Core.Path.{◌≡◌, refl, sym, ap, ap₂}
-use mathlib.Core.Logic.{⊎_elim}
+use Rattle.std.proofs.Common.{ℕ, zero, suc, max, ◌≤◌, ◌<◌, zero-le, lt-suc_self, not-suc-le-zero, arith, ◌≡◌, refl, sym, ap, ap₂, ⊎_elim}
+use Rattle.std.proofs.Math.Nat.{le_step, le-suc_iff, suc_inj}
 use Rattle.arith.specs.Largest.{largest}
 
 pub largest-suc : (n : ℕ) (f : ℕ → ℕ) → largest (suc n) f ≡ max (largest n f) (f n)

@@ -1,12 +1,7 @@
 -- Parts of a slice that are lent, and come back.
 -- Assumes nothing.
-use Prim.Native.Nat.{ℕ, ◌+◌, ◌-◌, ◌*◌, ◌≤◌, ◌<◌}
-use native.Mathlib.Omega.{arith}
-use native.Mathlib.Nat.{le_of_eq, le_refl, mul-le-mul}
-use mathlib.Core.Path.{◌≡◌, sym, ap, ◌∙◌}
-use mathlib.Core.List.{List, ◌++◌, append-nil, append_assoc}
-use lib.ListN.{length, get_or, take, drop, replicate, length-drop, length-replicate, get_or-replicate, drop_of_length-le, take-append-drop}
-use lib.Seq.{take_all, take-add, drop-drop, get_or-take, get_or-drop, length-take-le}
+use Rattle.std.proofs.Common.{ℕ, ◌+◌, ◌-◌, ◌*◌, ◌≤◌, ◌<◌, arith, le_of_eq, le_refl, mul-le-mul, ◌≡◌, sym, ap, ◌∙◌, List, ◌++◌, append-nil, append_assoc, length, get_or, take, drop, replicate, length-drop, drop_of_length-le, take-append-drop, take_all, take-add, drop-drop, get_or-take, get_or-drop, length-take-le}
+use Rattle.std.proofs.Math.ListN.{length-replicate, get_or-replicate}
 use borrow.Rule.Slice.PartMut.{put_mid}
 use Rattle.arith.specs.Tab.{tab, paste}
 use Rattle.arith.proofs.Tabs.{tab_cong, tab-get_or}

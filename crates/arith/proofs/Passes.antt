@@ -1,13 +1,8 @@
 -- A pass over a list: the first n places hold f 0 to f (n - 1), the others what they held.
 -- Assumes nothing.
-use Prim.Native.Nat.{ℕ, zero, suc, ◌+◌, ◌-◌, ◌*◌, ◌≤◌, ◌<◌, zero-le}
-use native.Mathlib.Nat.{le_of_eq}
-use native.Mathlib.Numerals.{add-one}
-use native.Mathlib.Omega.{arith}
-use mathlib.Core.Path.{◌≡◌, refl, sym, ap, ◌∙◌}
-use mathlib.Core.List.{List, [], ◌∷◌, ◌++◌, append_assoc, append-nil}
-use lib.ListN.{length, get_or, set, drop, length-append, length-drop, length-set, get_or-append, drop_of_length-le}
-use lib.Seq.{drop-cons, set_at, get_or-append-add, get_or-drop, take_at, drop_at, drop-drop}
+use Rattle.std.proofs.Common.{ℕ, zero, suc, ◌+◌, ◌-◌, ◌*◌, ◌≤◌, ◌<◌, zero-le, le_of_eq, add-one, arith, ◌≡◌, refl, sym, ap, ◌∙◌, List, [], ◌∷◌, ◌++◌, append_assoc, append-nil, length, get_or, set, drop, length-append, length-drop, length-set, drop_of_length-le, drop-cons, get_or-append-add, get_or-drop, take_at, drop_at, drop-drop}
+use Rattle.std.proofs.Math.ListN.{get_or-append}
+use Rattle.std.proofs.Math.Seq.{set_at}
 use borrow.Rule.Slice.PartMut.{put_mid}
 use Rattle.arith.specs.Tab.{tab, grid}
 use Rattle.arith.proofs.Tabs.{tab-suc, length-tab, get_or-tab, tab_cong}

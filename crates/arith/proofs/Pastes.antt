@@ -1,11 +1,7 @@
 -- A list pasted over another.
 -- Assumes nothing.
-use Prim.Native.Nat.{ℕ, ◌+◌, ◌-◌, ◌≤◌, ◌<◌}
-use native.Mathlib.Omega.{arith}
-use mathlib.Core.Path.{◌≡◌, ap, ◌∙◌}
-use mathlib.Core.List.{List, ◌++◌}
-use lib.ListN.{length, get_or, take, drop, length-append, length-drop, get_or-append}
-use lib.Seq.{get_or-append-add, get_or-take, get_or-drop, length-take-le}
+use Rattle.std.proofs.Common.{ℕ, ◌+◌, ◌-◌, ◌≤◌, ◌<◌, arith, ◌≡◌, ap, ◌∙◌, List, ◌++◌, length, get_or, take, drop, length-append, length-drop, get_or-append-add, get_or-take, get_or-drop, length-take-le}
+use Rattle.std.proofs.Math.ListN.{get_or-append}
 use Rattle.arith.specs.Tab.{paste}
 
 -- before what is pasted, in it, and after it

@@ -1,11 +1,7 @@
 -- Laws of remainders: sums modulo a number, and integers modulo 2^32.
 -- Assumes nothing.
-use Prim.Native.Nat.{ℕ, zero, suc, ◌+◌, ◌-◌, ◌*◌, ◌/◌, ◌%◌}
-use native.Mathlib.Nat.{add-mul-mod_self_left, mod-add-mod, add-mod-mod, div-add-mod, mod-eq_of_lt}
-use native.Mathlib.Omega.{arith}
-use mathlib.Core.Path.{◌≡◌, refl, sym, ap, ◌∙◌}
-use lib.Dec.{T}
-use lib.IntN.{ℤ, pos, negsuc}
+use Rattle.std.proofs.Common.{ℕ, zero, suc, ◌+◌, ◌-◌, ◌*◌, ◌/◌, ◌%◌, mod-eq_of_lt, arith, ◌≡◌, refl, sym, ap, ◌∙◌, T, ℤ, pos, negsuc}
+use Rattle.std.proofs.Math.Nat.{add-mul-mod_self_left, mod-add-mod, add-mod-mod, div-add-mod}
 use Rattle.arith.specs.Sum.{sum}
 use Rattle.arith.specs.Diff.{Diff}
 use Rattle.arith.specs.Twos.{signed, fits_signed}

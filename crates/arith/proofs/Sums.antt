@@ -1,10 +1,7 @@
 -- Laws of bounded sums.
 -- Assumes nothing.
-use Prim.Native.Nat.{ℕ, zero, suc, ◌+◌, ◌-◌, ◌*◌, ◌≤◌, ◌<◌, zero-le}
-use native.Mathlib.Nat.{le_step, lt-suc_self, le-suc_iff, suc_inj, not-suc-le-zero, add-suc, add-zero}
-use native.Mathlib.Omega.{arith}
-use mathlib.Core.Path.{◌≡◌, refl, sym, ap, ◌∙◌}
-use mathlib.Core.Logic.{⊎_elim, ◌≢◌}
+use Rattle.std.proofs.Common.{ℕ, zero, suc, ◌+◌, ◌-◌, ◌*◌, ◌≤◌, ◌<◌, zero-le, lt-suc_self, not-suc-le-zero, add-suc, add-zero, arith, ◌≡◌, refl, sym, ap, ◌∙◌, ⊎_elim, ◌≢◌}
+use Rattle.std.proofs.Math.Nat.{le_step, le-suc_iff, suc_inj}
 use Rattle.arith.specs.Sum.{sum}
 
 -- what holds of each index below n + 1 holds of each below n

@@ -1,14 +1,10 @@
 -- Laws of `tab`.
 -- Assumes nothing.
-use Prim.Native.Nat.{ℕ, zero, suc, ◌+◌, ◌<◌}
-use native.Mathlib.Nat.{le_step, lt-suc_self, le-suc_iff, suc_inj, not-suc-le-zero, add-zero}
-use native.Mathlib.Omega.{arith}
-use mathlib.Core.Path.{◌≡◌, refl, sym, ap, ◌∙◌}
-use mathlib.Core.Logic.{⊎_elim, ◌≢◌}
+use Rattle.std.proofs.Common.{ℕ, zero, suc, ◌+◌, ◌<◌, lt-suc_self, not-suc-le-zero, add-zero, arith, ◌≡◌, refl, sym, ap, ◌∙◌, ⊎_elim, ◌≢◌, List, [], ◌∷◌, ◌++◌, append_assoc, append-nil, length, get_or, set, length-append, length-set, ext_get_or, get_or-set_same, get_or-set_other}
+use Rattle.std.proofs.Math.Nat.{le_step, le-suc_iff, suc_inj}
+use Rattle.std.proofs.Math.ListN.{get_or-append}
+use Rattle.std.proofs.Math.Seq.{get_or-append_seam, get_or_at}
 use native.Mathlib.Decide.{ℕ_discrete}
-use mathlib.Core.List.{List, [], ◌∷◌, ◌++◌, append_assoc, append-nil}
-use lib.ListN.{length, get_or, set, length-append, length-set, get_or-append}
-use lib.Seq.{ext_get_or, get_or-append_seam, get_or_at, get_or-set_same, get_or-set_other}
 use Rattle.arith.specs.Tab.{tab}
 
 module _ {ℓ} {A : Type ℓ} where

@@ -1,16 +1,10 @@
 -- Laws of two's complement, for any number of bits.
 -- Assumes nothing.
-use Prim.Native.Nat.{ℕ, zero, suc, ◌+◌, ◌-◌, ◌*◌, ◌/◌, ◌%◌, ◌^◌, ◌≤◌, ◌<◌, zero-le}
-use native.Mathlib.Nat.{pow-succ', zero-div, div-lt_iff_lt-mul, lt_of_lt_of_le, add-mod_right, mod-eq_of_lt}
-use native.Mathlib.Omega.{arith}
-use mathlib.Core.Path.{◌≡◌, refl, sym, ap, ◌∙◌, subst}
-use mathlib.Core.Bool.{Bool, true, false, cond, not, ◌&&◌}
-use lib.Dec.{T, lit<, ltb, leb, ltb→lt, nltb→le, lt→ltb, leb→le, le→leb}
-use lib.IntN.{ℤ, pos, negsuc, neg_ℤ, sub_ℕ}
-use lib.Signed.{mag, le_z, lt_z, ◌≤ℤ◌}
-use lib.Pow.{pow_pos, pow_mono, pow-add, shl_exact}
-use mir.Facts.{and_yes, yes_and}
-use borrow.Author.Tests.{lt-ltb, le-ltb}
+use Rattle.std.proofs.Common.{ℕ, zero, suc, ◌+◌, ◌-◌, ◌*◌, ◌/◌, ◌%◌, ◌^◌, ◌≤◌, ◌<◌, zero-le, div-lt_iff_lt-mul, lt_of_lt_of_le, mod-eq_of_lt, arith, ◌≡◌, refl, sym, ap, ◌∙◌, subst, Bool, true, false, cond, not, ◌&&◌, T, lit<, ltb, leb, ltb→lt, nltb→le, lt→ltb, leb→le, le→leb, ℤ, pos, negsuc, neg_ℤ, ◌≤ℤ◌, pow_pos, pow_mono, pow-add, shl_exact, lt-ltb, le-ltb}
+use Rattle.std.proofs.Math.Nat.{pow-succ', zero-div, add-mod_right}
+use Rattle.std.proofs.Math.IntN.{sub_ℕ}
+use Rattle.std.specs.Int.Signed.{mag, le_z, lt_z}
+use Rattle.std.proofs.Math.Facts.{and_yes, yes_and}
 use Rattle.arith.specs.Diff.{Diff}
 use Rattle.arith.specs.Twos.{signed, unsigned, fits_signed}
 use Rattle.arith.specs.Floor.{floor_div}

@@ -1,17 +1,16 @@
-// ⟨log2 n⟩ as a constant table.
+//! ⟨log2 n⟩ as a constant table.
 ghost use Rattle.std.specs.Prelude.{◌≡◌, ◌≤◌};
 ghost use Rattle.arith.specs.Log.{log2up, LogRule};
 
-// The least e with 2^e not below n, for n from 1 to 961; 0 for any other n.
+/// The least e with 2^e not below n, for n from 1 to 961; 0 for any other n.
 pub fn log2_up(n: usize) -> u8
     ensures value { result ≡ log2up n }
     ensures log_rule { 1 ≤ n → n ≤ 961 → LogRule n result }
 {
-    if n == 0 {
-        return 0;
+    match n {
+        1..=961 => LOGS[n - 1],
+        _ => 0,
     }
-    let i = n - 1;
-    if i < 961 { LOGS[i] } else { 0 }
 }
 
 const LOGS: [u8; 961] = [

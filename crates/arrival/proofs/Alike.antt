@@ -1,9 +1,6 @@
 -- Windows and shares along lines that agree.
 -- Assumes nothing.
-use Prim.Native.Nat.{ℕ, suc, ◌+◌, ◌*◌, ◌/◌, ◌^◌}
-use mathlib.Core.Path.{◌≡◌, ap₂}
-use mathlib.Core.Bool.{cond}
-use lib.Dec.{eqb}
+use Rattle.std.proofs.Common.{ℕ, suc, ◌+◌, ◌*◌, ◌/◌, ◌^◌, ◌≡◌, ap₂, cond, eqb}
 use Rattle.arith.proofs.Sums.{sum_cong}
 use Rattle.layout.specs.declared.Rect.{Rect}
 use Rattle.layout.specs.Measure.{cols_of}

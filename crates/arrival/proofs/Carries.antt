@@ -1,37 +1,21 @@
 -- Column sums, updated and rolled back rectangle by rectangle.
 -- Assumes nothing.
-use Prim.Native.Nat.{ℕ, ◌+◌, ◌-◌, ◌*◌, ◌/◌, ◌^◌, ◌≤◌, ◌<◌}
-use native.Mathlib.Omega.{arith}
-use native.Mathlib.Nat.{mul-le-mul}
-use mathlib.Core.Path.{◌≡◌, refl, ap, ap₂, ◌∙◌}
-use mathlib.Core.Bool.{true, cond, ◌&&◌}
-use mathlib.Core.List.{List, ◌++◌}
-use lib.Dec.{T, leb, ltb, leb→le}
-use lib.ListN.{length, get_or, drop}
-use lib.IntN.{ℤ, pos, negsuc}
-use lib.Pow.{pow_mono}
-use mir.Facts.{and_yes}
+use Rattle.std.proofs.Common.{ℕ, ◌+◌, ◌-◌, ◌*◌, ◌/◌, ◌^◌, ◌≤◌, ◌<◌, arith, mul-le-mul, ◌≡◌, refl, ap, ap₂, ◌∙◌, true, cond, ◌&&◌, List, ◌++◌, T, leb, ltb, leb→le, length, get_or, drop, ℤ, pos, negsuc, pow_mono}
+use Rattle.std.proofs.Math.Facts.{and_yes}
 use Rattle.arith.specs.All.{all}
-use Rattle.arith.specs.Part.{pos_part, neg_part}
-use Rattle.arith.specs.Tab.{tab, grid}
+use Rattle.arith.specs.Tab.{grid}
 use Rattle.arith.proofs.Alls.{all_at, all_cong}
-use Rattle.arith.proofs.Sums.{sum_cong}
-use Rattle.arith.proofs.Tabs.{tab_cong}
 use Rattle.arith.proofs.Grids.{grid_next, grid_at_lem, grid_cong, grid_own}
 use Rattle.arith.proofs.Passes.{grid_rest}
 use Rattle.layout.specs.declared.Rect.{Rect}
 use Rattle.layout.specs.declared.Table.{Table}
 use Rattle.layout.specs.Contents.{rect}
-use Rattle.layout.specs.Measure.{cols_of}
 use Rattle.limits.specs.Limits.{acceptable}
 use Rattle.limits.proofs.Granted.{granted}
-use Rattle.rule.specs.Sums.{covered}
-use Rattle.arrival.specs.Arrivals.{Arrival, arriving, edge_row, cut_at, leaving, entering, stored, new_sum, sum_most, sum_good}
-use Rattle.arrival.specs.Arrivals.{line_at, window_at, scaled_at, sums_after}
-use Rattle.arrival.proofs.Alike.{same_share}
+use Rattle.arrival.specs.Arrivals.{Arrival, arriving, edge_row, cut_at, leaving, entering, stored, new_sum, sum_most, sum_good, line_at, sums_after}
 use Rattle.passes.proofs.Steps.{step_exact, step_back}
-use Rattle.passes.specs.Passes.{stepped, plus}
-use Rattle.arrival.specs.Rectangles.{sum_limit, updated_sum, rolled_back_sum, line_of, scale, with_share, with_part}
+use Rattle.passes.specs.Passes.{stepped}
+use Rattle.arrival.specs.Rectangles.{sum_limit, updated_sum, rolled_back_sum, line_of}
 
 -- the most that a column sum of a table within the limits can be
 pub most_le : (t : Table) (k : ℕ) → acceptable t ≡ true → k < t.count → sum_most t (rect t k) ≤ sum_limit
@@ -90,23 +74,9 @@ module _ (v : Arrival) (k : ℕ) (f : ℕ → ℕ → ℕ) {now : List ℕ} (e :
   same_line (pos j) = ap (λ n. cond (ltb j v.width) n 0) (same_new j)
   same_line (negsuc j) = refl
 
-  same_line_of : (i : ℕ) → line_of after k i ≡ line_of v k i
+  pub same_line_of : (i : ℕ) → line_of after k i ≡ line_of v k i
   unfolding line_of
   same_line_of i = ap (λ n. cond (ltb i 32) 0 (n / 2 ^ v.table.q2)) (same_line (pos (i - 32)))
-
-  same_scaled : (c : ℕ) → scaled_at after k c ≡ scaled_at v k c
-  unfolding scaled_at window_at
-  same_scaled c =
-      ap (λ s. s / 2 ^ v.table.q3 * 2 ^ (v.table.q1 + v.table.q2 + v.table.q3))
-      (sum_cong (cols_of d) (λ j h. ap (λ n. n / 2 ^ v.table.q2) (same_line (covered (pos c) d.trailcol j))))
-
-  pub same_part : (acc : List ℕ) → tab v.width (with_part after k acc) ≡ tab v.width (with_part v k acc)
-  same_part acc = tab_cong v.width (λ c h. ap (plus (get_or acc c 0) (pos_part d.weight) (neg_part d.weight)) (same_scaled c))
-
-  pub same_shared : (acc : List ℕ)
-      → tab (v.width + 16) (with_share d v.table.q3 (scale v.table) (line_of after k) acc)
-      ≡ tab (v.width + 16) (with_share d v.table.q3 (scale v.table) (line_of v k) acc)
-  same_shared acc = tab_cong (v.width + 16) (λ i h. rw (same_share d same_line_of v.table.q3 i) refl)
 
 -- where question 19 holds, an updated sum is the one of the rule, and the updated sums are those that an accepted arrival leaves
 updated_exact : (v : Arrival) (k c : ℕ) → sum_most v.table (rect v.table k) ≤ sum_limit → T (sum_good v k c) → updated_sum v k c ≡ new_sum v k c
@@ -137,7 +107,3 @@ module _
   all_back h =
       ap₂ ◌++◌ (grid_cong n v.width back_at) (ap (drop (n * v.width)) e ∙ grid_rest n v.width (updated_sum v) v.sums)
       ∙ grid_own n v.width v.sums h
-
--- rectangle k's line of the sum store
-pub line_small : (k l : ℕ) → k < 16 → l ≤ 1024 → k * l + l ≤ 16384
-line_small k l h w = let m = mul-le-mul h w in omega arith

@@ -1,10 +1,6 @@
 -- What the passes read of a column, lent the rows that the edges of rectangle k reach and its line of the sum store.
 -- Assumes nothing.
-use Prim.Native.Nat.{ℕ, ◌*◌, ◌/◌, ◌^◌, ◌<◌}
-use mathlib.Core.Path.{◌≡◌, refl, ap, ◌∙◌}
-use mathlib.Core.List.{List}
-use lib.IntN.{ℤ, pos, ◌+ℤ◌, ◌-ℤ◌}
-use lib.ListN.{get_or}
+use Rattle.std.proofs.Common.{ℕ, ◌*◌, ◌/◌, ◌^◌, ◌<◌, ◌≡◌, refl, ap, ◌∙◌, List, ℤ, pos, ◌+ℤ◌, ◌-ℤ◌, get_or}
 use Rattle.arith.specs.Tab.{tab}
 use Rattle.arith.proofs.Parts.{part, part_at}
 use Rattle.arith.proofs.Tabs.{get_or-tab}

@@ -1,9 +1,6 @@
 -- The delay of a table within the limits.
 -- Assumes nothing.
-use Prim.Native.Nat.{◌≤◌}
-use native.Mathlib.Omega.{arith}
-use mathlib.Core.Path.{◌≡◌}
-use mathlib.Core.Bool.{true}
+use Rattle.std.proofs.Common.{◌≤◌, arith, ◌≡◌, true}
 use Rattle.arith.proofs.Ints.{diff_pos_part}
 use Rattle.arith.proofs.Maxima.{largest_bound}
 use Rattle.layout.specs.declared.Table.{Table}

@@ -1,10 +1,6 @@
 -- A part of a line that is lent, and comes back changed: what the line then holds before it, in it and after it.
 -- Assumes nothing.
-use Prim.Native.Nat.{ℕ, ◌+◌, ◌-◌, ◌≤◌, ◌<◌}
-use native.Mathlib.Omega.{arith}
-use mathlib.Core.Path.{◌≡◌, ap, ◌∙◌}
-use mathlib.Core.List.{List}
-use lib.ListN.{length, get_or}
+use Rattle.std.proofs.Common.{ℕ, ◌+◌, ◌-◌, ◌≤◌, ◌<◌, arith, ◌≡◌, ap, ◌∙◌, List, length, get_or}
 use borrow.Rule.Slice.PartMut.{put_mid}
 use Rattle.arith.proofs.Parts.{part_back}
 use Rattle.arith.proofs.Pastes.{paste-length, paste_before, paste_in, paste_after}

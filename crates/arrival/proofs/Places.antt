@@ -1,15 +1,9 @@
 -- The line of a rectangle's truncated column sums: its windows by place are those of the rule, and how large they are.
 -- Assumes nothing.
-use Prim.Native.Nat.{ℕ, ◌+◌, ◌-◌, ◌*◌, ◌/◌, ◌^◌, ◌≤◌, ◌<◌, zero-le}
-use native.Mathlib.Nat.{le_trans, sub-le, mul_assoc, mul-le-mul, mul-le-mul_right, le-mul_of_pos_right, div-le_self, zero-div}
-use native.Mathlib.Omega.{arith}
-use mathlib.Core.Path.{◌≡◌, refl, sym, ap, ◌∙◌, subst}
-use mathlib.Core.Bool.{Bool, true, false, cond, not}
-use lib.Dec.{T, ltb, ltb→lt, nltb→le}
-use lib.IntN.{ℤ, pos, negsuc, sub_ℕ}
-use lib.Signed.{◌≤ℤ◌}
-use lib.Pow.{pow_pos, pow-add, pow_mono, shr_mono}
-use borrow.Author.Tests.{lt-ltb, le-ltb}
+use Rattle.std.proofs.Common.{ℕ, ◌+◌, ◌-◌, ◌*◌, ◌/◌, ◌^◌, ◌≤◌, ◌<◌, zero-le, le_trans, sub-le, mul_assoc, mul-le-mul, mul-le-mul_right, le-mul_of_pos_right, div-le_self, arith, ◌≡◌, refl, sym, ap, ◌∙◌, subst, Bool, true, false, cond, not, T, ltb, ltb→lt, nltb→le, ℤ, pos, negsuc, ◌≤ℤ◌, pow_pos, pow-add, pow_mono, lt-ltb, le-ltb}
+use Rattle.std.proofs.Math.Nat.{zero-div}
+use Rattle.std.proofs.Math.IntN.{sub_ℕ}
+use Rattle.std.proofs.Math.Pow.{shr_mono}
 use Rattle.arith.specs.All.{all}
 use Rattle.arith.proofs.Ints.{diff_add, diff_le, diff_neg, diff_pos, diff_pos_part, sub_high, sub_low}
 use Rattle.arith.proofs.Sums.{sum_cong, sum_bound}

@@ -1,12 +1,7 @@
 -- What the passes read of a line at the places of a rectangle's edges: the change of its window, or by running sums the window.
 -- Assumes nothing.
-use Prim.Native.Nat.{ℕ, suc, ◌+◌, ◌*◌, ◌/◌, ◌%◌, ◌^◌, ◌<◌}
-use native.Mathlib.Nat.{div-add-mod, div-one}
-use native.Mathlib.Omega.{arith}
-use mathlib.Core.Path.{◌≡◌, ap, ap₂, ◌∙◌}
-use mathlib.Core.List.{List}
-use lib.ListN.{get_or}
-use borrow.Author.Tests.{eq-eqb, ne_eqb}
+use Rattle.std.proofs.Common.{ℕ, suc, ◌+◌, ◌*◌, ◌/◌, ◌%◌, ◌^◌, ◌<◌, div-one, arith, ◌≡◌, ap, ap₂, ◌∙◌, List, get_or, eq-eqb, ne_eqb}
+use Rattle.std.proofs.Math.Nat.{div-add-mod}
 use Rattle.arith.specs.Part.{pos_part, neg_part}
 use Rattle.arith.proofs.Parts.{part, part_at}
 use Rattle.arith.proofs.Residues.{same_rest}

@@ -1,13 +1,7 @@
 -- How large the sums of an arrival are that passes question 19.
 -- Assumes nothing.
-use Prim.Native.Nat.{ℕ, ◌+◌, ◌-◌, ◌*◌, ◌/◌, ◌^◌, ◌≤◌, ◌<◌, zero-le}
-use native.Mathlib.Nat.{le_trans, mul-le-mul_left, mul-le-mul_right, div-mul-le_self}
-use native.Mathlib.Omega.{arith}
-use mathlib.Core.Path.{◌≡◌, subst}
-use mathlib.Core.Bool.{Bool, true, false, cond}
-use lib.Dec.{T, ltb, ltb→lt}
-use lib.IntN.{ℤ, pos, negsuc}
-use lib.Pow.{pow-add, shr_mono, ones_split}
+use Rattle.std.proofs.Common.{ℕ, ◌+◌, ◌-◌, ◌*◌, ◌/◌, ◌^◌, ◌≤◌, ◌<◌, zero-le, le_trans, mul-le-mul_left, mul-le-mul_right, div-mul-le_self, arith, ◌≡◌, subst, Bool, true, false, cond, T, ltb, ltb→lt, ℤ, pos, negsuc, pow-add}
+use Rattle.std.proofs.Math.Pow.{shr_mono, ones_split}
 use Rattle.arith.specs.All.{all}
 use Rattle.arith.proofs.Sums.{sum_bound}
 use Rattle.layout.specs.declared.Rect.{Rect}

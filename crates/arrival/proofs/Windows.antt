@@ -1,9 +1,7 @@
 -- Windows along a line that begins with 32 zeros: carried by what enters and leaves, and as differences of running sums.
 -- Assumes nothing.
-use Prim.Native.Nat.{ℕ, ◌+◌, ◌*◌, ◌/◌, ◌%◌, ◌≤◌, ◌<◌}
-use native.Mathlib.Nat.{div-add-mod, mod-eq_of_lt}
-use native.Mathlib.Omega.{arith}
-use mathlib.Core.Path.{◌≡◌, ap, ◌∙◌}
+use Rattle.std.proofs.Common.{ℕ, ◌+◌, ◌*◌, ◌/◌, ◌%◌, ◌≤◌, ◌<◌, mod-eq_of_lt, arith, ◌≡◌, ap, ◌∙◌}
+use Rattle.std.proofs.Math.Nat.{div-add-mod}
 use Rattle.arith.specs.Sum.{sum}
 use Rattle.arith.proofs.Sums.{sum_cong, sum-add, sum_scale, sum_split, sum_swap, sum_zero}
 use Rattle.arith.proofs.Residues.{same_rest, rest_sum}

@@ -1,16 +1,11 @@
 -- Truncated column sums written into a padded line: the line of the rectangle, padded still.
 -- Assumes nothing.
-use Prim.Native.Nat.{ℕ, ◌+◌, ◌-◌, ◌/◌, ◌^◌, ◌≤◌, ◌<◌}
-use native.Mathlib.Omega.{arith}
-use native.Mathlib.Nat.{zero-div}
-use mathlib.Core.Path.{◌≡◌, sym, ap, ◌∙◌}
-use mathlib.Core.Bool.{Bool, true, false, cond, not}
-use mathlib.Core.List.{List}
-use lib.Dec.{T, ltb, ltb→lt, nltb→le}
-use lib.ListN.{length, get_or}
+use Rattle.std.proofs.Common.{ℕ, ◌+◌, ◌-◌, ◌/◌, ◌^◌, ◌≤◌, ◌<◌, arith, ◌≡◌, sym, ap, ap₂, ◌∙◌, Bool, true, false, cond, not, List, T, ltb, ltb→lt, nltb→le, length, get_or}
+use Rattle.std.proofs.Math.Nat.{zero-div}
 use borrow.Rule.Slice.PartMut.{put_mid}
 use Rattle.arith.specs.Tab.{tab}
-use Rattle.arith.proofs.Tabs.{length-tab, get_or-tab}
+use Rattle.arith.proofs.Parts.{part, part_length}
+use Rattle.arith.proofs.Tabs.{length-tab, get_or-tab, tab_cong}
 use Rattle.arrival.specs.Arrivals.{Arrival, new_sum, line_at}
 use Rattle.arrival.specs.Rectangles.{line_of, ZeroPadded}
 use Rattle.arrival.proofs.Padded.{back_long, back_before, back_in, back_after}
@@ -58,3 +53,14 @@ module _
           let h = n tt in
           let m : i ≡ 32 + (i - 32) = omega arith in
           ap (λ p. get_or put p 0) m ∙ column (i - 32) (ltb (i - 32) v.width) (ltb→lt (i - 32) v.width) (nltb→le (i - 32) v.width)
+
+-- a line of a store that is lent, `&mut s[p..p + l]`, and comes back from a pass over it
+pub line_renewed : (p l : ℕ) (xs : List ℕ) {ys : List ℕ} {f g : ℕ → ℕ} → p + l ≤ length xs → ys ≡ tab (length (part p l xs)) f
+    → ((c : ℕ) → c < l → f c ≡ g c) → put_mid p (p + l - p) xs ys ≡ put_mid p l xs (tab l g)
+line_renewed p l xs {ys} {f} h e i =
+    let n : p + l - p ≡ l = omega arith in
+    ap₂ (λ j ys. put_mid p j xs ys) n (e ∙ ap (λ m. tab m f) (part_length p l xs h) ∙ tab_cong l i)
+
+-- what a pass over a whole line leaves
+pub tab_by : {A : Type 0} {n m : ℕ} {f g : ℕ → A} {ys : List A} → ys ≡ tab n f → n ≡ m → ((c : ℕ) → c < m → f c ≡ g c) → ys ≡ tab m g
+tab_by {A} {n} {m} {f} e l i = e ∙ ap (λ n. tab n f) l ∙ tab_cong m i

@@ -8,9 +8,7 @@ use Rattle.arith.specs.Floor.{floor_div}
 use Rattle.arith.specs.Twos.{fits_signed}
 use Rattle.layout.specs.declared.Rect.{Rect}
 use Rattle.layout.specs.declared.Table.{Table}
-use Rattle.layout.specs.declared.Verdict.{Verdict}
-use Rattle.layout.specs.declared.Verdict.TheVariants.{Accepted, Refused}
-use Rattle.layout.specs.Answers.{Question, asks_each, first_no}
+use Rattle.layout.specs.Answers.{Said, refused, accepted, Question, asks_each, first_no}
 use Rattle.layout.specs.Contents.{rect}
 use Rattle.layout.specs.Measure.{rows_of, cols_of, delay_of}
 use Rattle.limits.specs.Limits.{acceptable}
@@ -114,21 +112,21 @@ sums_after v = grid v.table.count v.width (new_sum v) ++ drop (v.table.count * v
 unfoldable pub output_after : Arrival → List ℤ → List ℤ
 output_after v out = cond (ltb v.number (delay_of v.table)) out (tab v.width (pixel_at v) ++ drop v.width out)
 
--- what an arrival leaves: the verdict, the stores and the output
+-- what an arrival leaves: what it says, the stores and the output
 pub record Leaves : Type 0 where
-  pub verdict : Verdict
+  pub said : Said
   pub samples : List ℕ
   pub sums : List ℕ
   pub out : List ℤ
 
-abbrev pub leaves : Verdict → (samples sums : List ℕ) → (out : List ℤ) → Leaves
-leaves verdict samples sums out = record { verdict = verdict; samples = samples; sums = sums; out = out }
+abbrev pub leaves : Said → (samples sums : List ℕ) → (out : List ℤ) → Leaves
+leaves said samples sums out = record { said = said; samples = samples; sums = sums; out = out }
 
 -- question 19: refused, all is as it was
 unfoldable pub arrive_of : Arrival → (out : List ℤ) → Leaves
 arrive_of v out =
-    first_no (arrival_asks v) (λ number place. leaves (Refused number place) v.samples v.sums out)
-    (leaves Accepted (samples_after v) (sums_after v) (output_after v out))
+    first_no (arrival_asks v) (λ number place. leaves (refused number place) v.samples v.sums out)
+    (leaves (accepted []) (samples_after v) (sums_after v) (output_after v out))
 
 -- ---- what an arrival asks of its caller, with the length of the output: at most 65,535 rows and 15 closing steps come before it
 

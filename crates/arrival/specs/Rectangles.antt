@@ -1,6 +1,6 @@
 -- What the steps of an arrival compute for one rectangle, and what they ask. The contract of an arrival uses none of this.
 -- Assumes nothing.
-use Rattle.std.specs.Prelude.{ℕ, suc, ◌+◌, ◌-◌, ◌*◌, ◌/◌, ◌%◌, ◌^◌, ◌≤◌, ◌<◌, ◌≡◌, Bool, true, false, cond, List, ◌++◌, T, eqb, ltb, ℤ, pos, ◌+ℤ◌, length, get_or, drop}
+use Rattle.std.specs.Prelude.{ℕ, suc, ◌+◌, ◌-◌, ◌*◌, ◌/◌, ◌%◌, ◌^◌, ◌≤◌, ◌<◌, ◌≡◌, Bool, true, cond, List, T, eqb, ltb, ℤ, pos, ◌+ℤ◌, length, get_or}
 use borrow.Rule.Slice.PartMut.{put_mid}
 use Rattle.arith.specs.All.{all}
 use Rattle.arith.specs.Part.{pos_part, neg_part}
@@ -9,10 +9,9 @@ use Rattle.arith.specs.Tab.{tab}
 use Rattle.layout.specs.declared.Rect.{Rect}
 use Rattle.layout.specs.declared.Table.{Table}
 use Rattle.layout.specs.Contents.{rect}
-use Rattle.layout.specs.Measure.{cols_of, delay_of}
+use Rattle.layout.specs.Measure.{cols_of}
 use Rattle.arith.specs.Twos.{fits_signed}
-use Rattle.limits.specs.Limits.{acceptable, rect_good}
-use Rattle.ring.specs.Ring.{RingFits}
+use Rattle.limits.specs.Limits.{rect_good}
 use Rattle.passes.specs.Passes.{bound_most, stepped, running, plus, value_most, part_most, scaled_end}
 use Rattle.arrival.specs.Arrivals.{Arrival, leaving, entering, stored, sum_good, line_at, scaled_at}
 
@@ -74,26 +73,6 @@ with_part v k acc c = let w = (rect v.table k).weight in plus (get_or acc c 0) (
 
 -- ---- what each step asks
 
--- a row of zeros
-pub record Zeros (width : ℕ) (zeros : List ℕ) : Type 0 where
-  pub long : width ≤ length zeros
-  pub none : (i : ℕ) → get_or zeros i 0 ≡ 0
-
--- `edge_row`: numbers within the limits, and the row and the store of their lengths
-pub record EdgeFits (l a delay : ℕ) (row samples zeros : List ℕ) : Type 0 where
-  pub width_most : l ≤ 1024
-  pub number_most : a ≤ 65550
-  pub delay_most : delay ≤ 15
-  pub ring : RingFits l (length row) (length samples)
-  pub zero_row : Zeros l zeros
-
--- all that go over rectangles: the table within the limits, its delay, and a sum for each rectangle and column
-pub record StepFits (v : Arrival) (delay : ℕ) (zeros : List ℕ) : Type 0 where
-  pub table : acceptable v.table ≡ true
-  pub delay_is : delay ≡ delay_of v.table
-  pub edges : EdgeFits v.width v.number delay v.row v.samples zeros
-  pub sums_long : v.table.count * v.width ≤ length v.sums
-
 -- a line with zeros but in the `width` places from place 32 on
 pub record ZeroPadded (width : ℕ) (line : List ℕ) : Type 0 where
   pub places : width + 48 ≤ length line
@@ -125,31 +104,15 @@ pub record LineFits (d : Rect) (q3 q width : ℕ) (line : List ℕ) : Type 0 whe
 
 -- values of 64 bits with room for one rectangle more
 pub record ValuesFit (width : ℕ) (acc : List ℕ) : Type 0 where
-  pub acc_long : width ≤ length acc
+  pub acc_long : length acc ≡ width
   pub value_least : (c : ℕ) → c < width → part_most ≤ get_or acc c 0
   pub value_at_most : (c : ℕ) → c < width → get_or acc c 0 ≤ value_most
 
--- `rectangle`: one of the table's, a padded line, and an accumulator with room
-pub record RectangleFits (t : Table) (k width : ℕ) (narrow : Bool) (acc wide line : List ℕ) : Type 0 where
-  pub few : k < t.count
-  pub padded : ZeroPadded width line
-  pub words : narrow ≡ true → width + 16 ≤ length acc
-  pub longs : narrow ≡ false → ValuesFit width wide
-
 -- ---- what each step leaves
 
--- `update_rectangle`: whether question 19 holds of it, its sums updated, and its line where it holds
+-- `update`: whether question 19 holds of it, its sums updated, and its line where it holds
 pub record Updated (v : Arrival) (k : ℕ) (good : Bool) (sums' line' : List ℕ) : Type 0 where
   pub answer : good ≡ all v.width (sum_good v k)
   pub sums : sums' ≡ put_mid (k * v.width) v.width v.sums (tab v.width (updated_sum v k))
   pub padded : ZeroPadded v.width line'
   pub line : good ≡ true → (i : ℕ) → get_or line' i 0 ≡ line_of v k i
-
--- `rectangle`: the same, with its part in the values where question 19 holds
-pub record Added (v : Arrival) (k : ℕ) (narrow good : Bool) (acc wide acc' wide' sums' line' : List ℕ) : Type 0 where
-  pub answer : good ≡ all v.width (sum_good v k)
-  pub sums : sums' ≡ put_mid (k * v.width) v.width v.sums (tab v.width (updated_sum v k))
-  pub padded : ZeroPadded v.width line'
-  pub words : good ≡ true → narrow ≡ true
-      → acc' ≡ tab (v.width + 16) (with_share (rect v.table k) v.table.q3 (scale v.table) (line_of v k) acc) ++ drop (v.width + 16) acc
-  pub longs : good ≡ true → narrow ≡ false → wide' ≡ tab v.width (with_part v k wide) ++ drop v.width wide

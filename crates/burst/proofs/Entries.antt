@@ -3,9 +3,9 @@
 use Prim.Native.Nat.{ℕ, ◌*◌, ◌/◌, ◌≤◌}
 use native.Mathlib.Nat.{le_trans, div-mul-le_self}
 use mathlib.Core.Path.{◌≡◌}
+use mathlib.Core.List.{[]}
 use borrow.Author.Tests.{leb-true}
-use Rattle.layout.specs.declared.Verdict.TheVariants.{Accepted}
-use Rattle.layout.specs.Answers.{verdict}
+use Rattle.layout.specs.Answers.{accepted, verdict}
 use Rattle.layout.proofs.Questions.{all_yes}
 use Rattle.rule.proofs.Asked.{width_bounds}
 use Rattle.scan.specs.declared.Scan.{Scan}
@@ -19,7 +19,7 @@ pub record Entered (s : Scan) (rows out : ℕ) : Type 0 where
   pub rows_most : s.rows ≤ 65535
   pub room : rows ≤ out
 
-pub entered : (s : Scan) (rows out : ℕ) → verdict (burst_asks s rows out) ≡ Accepted → Entered s rows out
+pub entered : (s : Scan) (rows out : ℕ) → verdict (burst_asks s rows out) ≡ accepted [] → Entered s rows out
 unfolding burst_asks
 entered s rows out e =
     let y = all_yes (burst_asks s rows out) e in

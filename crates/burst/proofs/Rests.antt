@@ -10,7 +10,9 @@ use lib.Dec.{ltb}
 use lib.IntN.{ℤ, pos}
 use lib.ListN.{length}
 use borrow.Author.Tests.{ltb-true}
-use Rattle.layout.specs.Answers.{Said, refused, accepted, waiting, left}
+use Rattle.layout.specs.Answers.{Said, said, refused, accepted, waiting, left}
+use Rattle.std.proofs.Common.{Result, Ok, Err, is_err}
+use Rattle.layout.specs.declared.asking.Refusal.{Refusal}
 use Rattle.layout.specs.Measure.{delay_of}
 use Rattle.layout.proofs.Questions.{first_yes}
 use Rattle.arrival.specs.Arrivals.{arrival_asks}
@@ -26,6 +28,10 @@ row_refused s = go (is_refused s) refl
     go : (b : Bool) → is_refused s ≡ b → is_refused (cond b s (accepted [])) ≡ b
     go true e = e
     go false e = refl
+
+pub err_refused : (v : Result (Unit {0}) Refusal) → is_err v ≡ is_refused (said v)
+err_refused (Ok x) = refl
+err_refused (Err r) = refl
 
 -- a row that is not refused is taken, and is one of at most 65,535
 pub row_taken : (w : World) (row : List ℕ) (out : List ℤ) → is_refused (row_of w row out).said ≡ false

@@ -1,34 +1,27 @@
-// Rows handed over together.
+//! Rows handed over together.
 ghost use Rattle.std.specs.Prelude.{◌≡◌, cond, [], ◌+◌, ◌*◌, ◌≤◌, ◌<◌, length};
-ghost use Rattle.layout.specs.Answers.{accepted, said, answer_said, verdict, left};
+ghost use Rattle.layout.specs.Answers.{accepted, said, verdict, left};
+ghost use Rattle.machine.specs.Calls.{due_is, said_by};
 ghost use Rattle.scan.specs.Calls.{world, row_of};
 ghost use Rattle.burst.specs.Bursts.{progress, is_refused, row_said, feed, burst_asks, burst_of, burst_said};
 
 use crate::Burst;
-use layout::{Answer, Verdict};
-use scan::{Moved, Scan, state_good};
+use layout::{Question, Refusal};
+use scan::{Scan, Taken, state_good, take_row};
 
-// The questions before the first row, on the lengths of the slice and of the output.
-fn asked(s: Scan, rows: usize, out: usize) -> Verdict
-    ensures { result ≡ verdict (burst_asks s rows out) }
+/// The questions before the first row, on the lengths of the slice and of the output.
+#[tactic(auto, unfolding(crate::specs::Bursts::burst_asks))]
+fn ask(s: Scan, rows: usize, out: usize) -> Result<(), Refusal>
+    ensures { said result ≡ verdict (burst_asks s rows out) }
 {
-    if !state_good(s) {
-        return Verdict::Refused(14, 0);
-    }
-    if s.closed {
-        return Verdict::Refused(15, 0);
-    }
-    if rows % s.width != 0 {
-        return Verdict::Refused(21, 0);
-    }
-    if out < rows {
-        return Verdict::Refused(13, 0);
-    }
-    Verdict::Accepted
+    Refusal::unless(state_good(s), Question::State)?;
+    Refusal::unless(!s.closed, Question::Phase)?;
+    Refusal::unless(rows % s.width == 0, Question::WholeRows)?;
+    Refusal::unless(rows <= out, Question::Stores)
 }
 
-// No row taken, with a verdict.
-fn begun(verdict: Verdict, scan: Scan) -> Burst
+/// No row taken, with a verdict.
+fn begun(verdict: Result<(), Refusal>, scan: Scan) -> Burst
     ensures { (result.verdict ≡ verdict) × (result.taken ≡ 0) × (result.filtered ≡ 0) × (result.scan ≡ scan) }
 {
     Burst {
@@ -39,30 +32,29 @@ fn begun(verdict: Verdict, scan: Scan) -> Burst
     }
 }
 
-// One row's answer, counted.
-fn count(b: Burst, m: Moved) -> Burst
+/// One row's answer, counted.
+fn count(b: Burst, one: Taken) -> Burst
     requires { (b.taken < 18446744073709551615) × (b.filtered < 18446744073709551615) }
-    ensures verdict_value { (said result.verdict ≡ row_said (answer_said m.answer)) × (result.scan ≡ m.scan) }
-    ensures taken_value { result.taken ≡ b.taken + cond (is_refused (answer_said m.answer)) 0 1 }
-    ensures filtered_value { result.filtered ≡ b.filtered + length (answer_said m.answer).values }
+    ensures verdict_value { (said result.verdict ≡ row_said (said_by due_is one.row)) × (result.scan ≡ one.scan) }
+    ensures taken_value { result.taken ≡ b.taken + cond (is_refused (said_by due_is one.row)) 0 1 }
+    ensures filtered_value { result.filtered ≡ b.filtered + length (said_by due_is one.row).values }
 {
-    let answer = m.answer;
-    let scan = m.scan;
-    match answer {
-        Answer::Row(_) => Burst {
-            verdict: Verdict::Accepted,
+    let scan = one.scan;
+    match one.row {
+        Ok(Some(_)) => Burst {
+            verdict: Ok(()),
             taken: b.taken + 1,
             filtered: b.filtered + 1,
             scan,
         },
-        Answer::Waiting => Burst {
-            verdict: Verdict::Accepted,
+        Ok(None) => Burst {
+            verdict: Ok(()),
             taken: b.taken + 1,
             filtered: b.filtered,
             scan,
         },
-        Answer::Refused(number, place) => Burst {
-            verdict: Verdict::Refused(number, place),
+        Err(refusal) => Burst {
+            verdict: Err(refusal),
             taken: b.taken,
             filtered: b.filtered,
             scan,
@@ -70,18 +62,8 @@ fn count(b: Burst, m: Moved) -> Burst
     }
 }
 
-// Whether a verdict is a refusal.
-fn refuses(v: Verdict) -> bool
-    ensures { result ≡ is_refused (said v) }
-{
-    match v {
-        Verdict::Accepted => false,
-        Verdict::Refused(_, _) => true,
-    }
-}
-
-// The n rows one by one, up to one that is refused; the filtered rows stand one after the other from the start of the
-// output on.
+/// The n rows one by one, up to one that is refused; the filtered rows stand one after the other from the start of the
+/// output on.
 fn each(
     s: Scan,
     rows: &[u16],
@@ -95,39 +77,35 @@ fn each(
         ≡ feed row_of s.width n (progress (accepted []) (world s samples.old sums.old) out.old 0 0) rows.now }
 {
     let width = s.width;
-    let mut b = begun(Verdict::Accepted, s);
+    let mut b = begun(Ok(()), s);
     while b.taken < n {
         let before = b.scan;
         let at = b.taken * width;
         let to = b.filtered * width;
-        let m = scan::row(
+        let one = take_row(
             before,
             &rows[at..at + width],
             samples,
             sums,
             &mut out[to..to + width],
         );
-        b = count(b, m);
-        let v = b.verdict;
-        if refuses(v) {
+        b = count(b, one);
+        if b.verdict.is_err() {
             return b;
         }
     }
     b
 }
 
-// A burst of rows: questions 14, 15, 21 and 13, then each row with its own. It stops at a refused row, with what the rows
-// before it left.
+/// A burst of rows: questions 14, 15, 21 and 13, then each row with its own. It stops at a refused row, with what the rows
+/// before it left.
 pub fn rows(s: Scan, rows: &[u16], samples: &mut [u16], sums: &mut [u32], out: &mut [i32]) -> Burst
     ensures { left (burst_said result) (world result.scan samples.new sums.new) out.new
         ≡ burst_of (world s samples.old sums.old) rows.now out.old }
 {
-    let v = asked(s, rows.len(), out.len());
-    match v {
-        Verdict::Refused(_, _) => begun(v, s),
-        Verdict::Accepted => {
-            let n = rows.len() / s.width;
-            each(s, rows, n, samples, sums, out)
-        }
+    let verdict = ask(s, rows.len(), out.len());
+    match verdict {
+        Err(_) => begun(verdict, s),
+        Ok(()) => each(s, rows, rows.len() / s.width, samples, sums, out),
     }
 }

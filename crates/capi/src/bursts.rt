@@ -1,15 +1,15 @@
-// Several rows of a scan handed over together, for C.
+//! Several rows of a scan handed over together, for C.
 ghost use Rattle.std.specs.Prelude.{◌≡◌};
 ghost use Rattle.scan.specs.Calls.{world};
 ghost use Rattle.burst.specs.Bursts.{burst_of};
 ghost use Rattle.cstructs.specs.Answers.{burst_c, handed, left_c};
 
 use burst::rows;
-use cstructs::{BurstAnswer, burst_counted};
+use cstructs::BurstAnswer;
 use scan::Scan;
 
-// How many rows were taken and how many filtered rows came out, the refusal of the row where they stop, and the scan after
-// them.
+/// How many rows were taken and how many filtered rows came out, the refusal of the row where they stop, and the scan after
+/// them.
 #[unsafe(no_mangle)]
 pub extern "C" fn strip_scan_rows(
     scan: Scan,
@@ -21,5 +21,5 @@ pub extern "C" fn strip_scan_rows(
     ensures { handed result samples.new sums.new out.new
         ≡ left_c burst_c (burst_of (world scan samples.old sums.old) lines.now out.old) }
 {
-    burst_counted(rows(scan, lines, samples, sums, out))
+    rows(scan, lines, samples, sums, out).into()
 }

@@ -1,4 +1,4 @@
-// The library for C: each call of the header include/strip.h, over the proved call that does the work.
+//! The library for C: each call of the header include/strip.h, over the proved call that does the work.
 #![tactic(auto)]
 
 mod bursts;

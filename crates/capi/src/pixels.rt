@@ -1,13 +1,13 @@
-// The one-pixel call, for C.
+//! The one-pixel call, for C.
 ghost use Rattle.std.specs.Prelude.{◌≡◌};
 ghost use Rattle.pixel.specs.Call.{pixel_answer};
 ghost use Rattle.cstructs.specs.Answers.{pixel_c};
 
-use cstructs::{PixelAnswer, pixel_found};
+use cstructs::PixelAnswer;
 use layout::Table;
 use pixel::pixel;
 
-// The pixel at row r, column c of a scan lent whole, or the refusal.
+/// The pixel at row r, column c of a scan lent whole, or the refusal.
 #[unsafe(no_mangle)]
 pub extern "C" fn strip_pixel(
     table: Table,
@@ -18,5 +18,5 @@ pub extern "C" fn strip_pixel(
 ) -> PixelAnswer
     ensures { result ≡ pixel_c (pixel_answer table width samples.now r c) }
 {
-    pixel_found(pixel(table, width, samples, r, c))
+    pixel(table, width, samples, r, c).into()
 }

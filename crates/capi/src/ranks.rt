@@ -1,12 +1,12 @@
-// A ranked scan row by row, for C.
+//! A ranked scan row by row, for C.
 ghost use Rattle.std.specs.Prelude.{◌≡◌, List, [], ℕ};
 ghost use Rattle.rank.specs.Calls.{world, start_of, close_of, row_of, step_of};
 ghost use Rattle.cstructs.specs.Ranks.{started_c, answer_c, handed, left_c};
 
-use cstructs::{RankAnswer, RankStarted, rank_moved, rank_started, rank_stepped};
+use cstructs::{RankAnswer, RankStarted};
 use rank::{RankScan, Window, close, row, start, step};
 
-// A ranked scan with no row in it, or the refusal and a scan of width 0.
+/// A ranked scan with no row in it, or the refusal and a scan of width 0.
 #[unsafe(no_mangle)]
 pub extern "C" fn strip_rank_start(
     b: u8,
@@ -20,19 +20,19 @@ pub extern "C" fn strip_rank_start(
     ensures { handed result samples.new counts.new windows.new []
         ≡ left_c started_c (start_of b window rank width samples.old counts.old windows.old) }
 {
-    rank_started(start(b, window, rank, width, samples, counts, windows))
+    start(b, window, rank, width, samples, counts, windows).into()
 }
 
-// The ranked scan closed, or the refusal and the scan as it was.
+/// The ranked scan closed, or the refusal and the scan as it was.
 #[unsafe(no_mangle)]
 pub extern "C" fn strip_rank_close(scan: RankScan) -> RankStarted
     ensures { (samples counts windows : List ℕ) → handed result samples counts windows []
         ≡ left_c started_c (close_of (world scan samples counts windows)) }
 {
-    rank_started(close(scan))
+    close(scan).into()
 }
 
-// What a row comes to, and the ranked scan after it.
+/// What a row comes to, and the ranked scan after it.
 #[unsafe(no_mangle)]
 pub extern "C" fn strip_rank_row(
     scan: RankScan,
@@ -45,10 +45,10 @@ pub extern "C" fn strip_rank_row(
     ensures { handed result samples.new counts.new windows.new out.new
         ≡ left_c answer_c (row_of (world scan samples.old counts.old windows.old) line.now out.old) }
 {
-    rank_moved(row(scan, line, samples, counts, windows, out))
+    row(scan, line, samples, counts, windows, out).into()
 }
 
-// What a closing step comes to, and the ranked scan after it.
+/// What a closing step comes to, and the ranked scan after it.
 #[unsafe(no_mangle)]
 pub extern "C" fn strip_rank_step(
     scan: RankScan,
@@ -60,5 +60,5 @@ pub extern "C" fn strip_rank_step(
     ensures { handed result samples.new counts.new windows.new out.new
         ≡ left_c answer_c (step_of (world scan samples.old counts.old windows.old) out.old) }
 {
-    rank_stepped(step(scan, samples, counts, windows, out))
+    step(scan, samples, counts, windows, out).into()
 }

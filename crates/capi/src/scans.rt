@@ -1,13 +1,13 @@
-// A scan row by row, for C.
+//! A scan row by row, for C.
 ghost use Rattle.std.specs.Prelude.{◌≡◌, List, [], ℕ};
 ghost use Rattle.scan.specs.Calls.{world, start_of, close_of, row_of, step_of};
 ghost use Rattle.cstructs.specs.Answers.{started_c, answer_c, handed, left_c};
 
-use cstructs::{ScanAnswer, ScanStarted, scan_moved, scan_started, scan_stepped};
+use cstructs::{ScanAnswer, ScanStarted};
 use layout::Table;
 use scan::{Scan, close, row, start, step};
 
-// A scan with no row in it, or the refusal and a scan of width 0.
+/// A scan with no row in it, or the refusal and a scan of width 0.
 #[unsafe(no_mangle)]
 pub extern "C" fn strip_scan_start(
     table: Table,
@@ -18,18 +18,18 @@ pub extern "C" fn strip_scan_start(
     ensures { handed result samples.new sums.new []
         ≡ left_c started_c (start_of table width samples.old sums.old) }
 {
-    scan_started(start(table, width, samples, sums))
+    start(table, width, samples, sums).into()
 }
 
-// The scan closed, or the refusal and the scan as it was.
+/// The scan closed, or the refusal and the scan as it was.
 #[unsafe(no_mangle)]
 pub extern "C" fn strip_scan_close(scan: Scan) -> ScanStarted
     ensures { (samples sums : List ℕ) → handed result samples sums [] ≡ left_c started_c (close_of (world scan samples sums)) }
 {
-    scan_started(close(scan))
+    close(scan).into()
 }
 
-// What a row comes to, and the scan after it.
+/// What a row comes to, and the scan after it.
 #[unsafe(no_mangle)]
 pub extern "C" fn strip_scan_row(
     scan: Scan,
@@ -41,10 +41,10 @@ pub extern "C" fn strip_scan_row(
     ensures { handed result samples.new sums.new out.new
         ≡ left_c answer_c (row_of (world scan samples.old sums.old) line.now out.old) }
 {
-    scan_moved(row(scan, line, samples, sums, out))
+    row(scan, line, samples, sums, out).into()
 }
 
-// What a closing step comes to, and the scan after it.
+/// What a closing step comes to, and the scan after it.
 #[unsafe(no_mangle)]
 pub extern "C" fn strip_scan_step(
     scan: Scan,
@@ -55,5 +55,5 @@ pub extern "C" fn strip_scan_step(
     ensures { handed result samples.new sums.new out.new
         ≡ left_c answer_c (step_of (world scan samples.old sums.old) out.old) }
 {
-    scan_stepped(step(scan, samples, sums, out))
+    step(scan, samples, sums, out).into()
 }

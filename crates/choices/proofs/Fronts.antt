@@ -1,14 +1,9 @@
 -- Ratings in their order: what is beaten is beaten by one that nothing beats.
 -- Assumes nothing.
-use Prim.Native.Nat.{ℕ, zero, suc, ◌+◌, ◌≤◌, ◌<◌}
-use native.Mathlib.Nat.{le_step, lt-suc_self, not-suc-le-zero}
-use native.Mathlib.Omega.{arith}
-use mathlib.Core.Path.{◌≡◌, refl, sym, ap₂, subst}
-use mathlib.Core.Bool.{Bool, true, false, not, ◌&&◌, ◌||◌}
-use mathlib.Core.Logic.{◌⊎◌, inl, inr}
-use lib.Dec.{T, leb, ltb, leb→le, ltb→lt, le→leb, nltb→le}
-use mir.Facts.{and_yes, yes_and}
-use borrow.Author.Tests.{lt-ltb, not-false}
+use Rattle.std.proofs.Common.{ℕ, zero, suc, ◌+◌, ◌≤◌, ◌<◌, lt-suc_self, not-suc-le-zero, arith, ◌≡◌, refl, sym, ap₂, subst, Bool, true, false, not, ◌&&◌, ◌||◌, ◌⊎◌, inl, inr, T, leb, ltb, leb→le, ltb→lt, le→leb, nltb→le, lt-ltb}
+use Rattle.std.proofs.Math.Nat.{le_step}
+use Rattle.std.proofs.Math.Facts.{and_yes, yes_and}
+use Rattle.std.proofs.lemmas.Bool.{not-false}
 use Rattle.arith.specs.All.{all}
 use Rattle.arith.proofs.Alls.{all_at}
 use Rattle.arith.proofs.Bools.{true_of}

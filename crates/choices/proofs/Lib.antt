@@ -1,4 +1,3 @@
-pub mod Comparing
 pub mod Stored
 pub mod Fronts
 pub mod Thirds

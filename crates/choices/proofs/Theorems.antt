@@ -1,15 +1,8 @@
 -- What is listed covers every choice that is accepted; q3 above 0 gains nothing.
 -- Assumes nothing.
-use Prim.Native.Nat.{ℕ, zero, suc, ◌*◌, ◌/◌, ◌%◌, ◌<◌}
-use native.Mathlib.Nat.{le_of_eq, lt-suc_self, div-add-mod, mod-lt}
-use native.Mathlib.Omega.{arith}
-use mathlib.Core.Path.{◌≡◌, refl, sym, ap, ap₂, ◌∙◌, subst}
-use mathlib.Core.Bool.{Bool, true, false, cond, ◌&&◌}
-use mathlib.Core.Logic.{◌⊎◌, inl, inr}
-use lib.Dec.{T, leb, ltb, le→leb, lt→ltb}
-use lib.IntN.{ℤ, pos, neg_ℤ, ◌-ℤ◌}
-use lib.Signed.{◌≤ℤ◌}
-use mir.Facts.{and_yes, yes_and}
+use Rattle.std.proofs.Common.{Some, None, ℕ, zero, suc, ◌*◌, ◌/◌, ◌%◌, ◌<◌, le_of_eq, lt-suc_self, mod-lt, arith, ◌≡◌, refl, sym, ap, ap₂, ◌∙◌, subst, Bool, true, false, cond, ◌&&◌, ◌⊎◌, inl, inr, T, leb, ltb, le→leb, lt→ltb, ℤ, pos, neg_ℤ, ◌-ℤ◌, ◌≤ℤ◌}
+use Rattle.std.proofs.Math.Nat.{div-add-mod}
+use Rattle.std.proofs.Math.Facts.{and_yes, yes_and}
 use Rattle.arith.proofs.Bools.{true_of}
 use Rattle.layout.specs.declared.Table.{Table}
 use Rattle.layout.specs.Contents.{contents}
@@ -17,7 +10,7 @@ use Rattle.limits.specs.Limits.{bits_good, drops_good, value_good, shaped, withi
 use Rattle.rule.specs.Pixels.{full_value, pixel_of}
 use Rattle.rule.specs.Questions.{width_good}
 use Rattle.rule.specs.Sums.{Image}
-use Rattle.figures.specs.Measured.{pixels_above, pixels_below, measured, not_measured, figures_of}
+use Rattle.figures.specs.Measured.{pixels_above, pixels_below, measured, figures_of}
 use Rattle.figures.specs.Off.{full_pixel, pixel_off}
 use Rattle.figures.proofs.Theorems.{off_within, full_without_drops}
 use Rattle.choices.specs.Choices.{with_drops, choice_count, Rating, rating_of, unbeaten, rating, listed}
@@ -42,13 +35,13 @@ rating-accepted : (t : Table) (l i : ℕ) → (rating t l i).accepted ≡ true �
 unfolding rating figures_of
 rating-accepted t l i = go (acceptable (with_drops t i)) (width_good l)
   where
-    go : (a w : Bool) → (cond (a && w) (measured (with_drops t i) l) not_measured).accepted ≡ true → (a ≡ true) × (w ≡ true)
+    go : (a w : Bool) → (rating_of (cond (a && w) (Some (measured (with_drops t i) l)) None)).accepted ≡ true → (a ≡ true) × (w ≡ true)
     go true true e = (refl, refl)
     go true false e = absurd (subst T (sym e) tt)
     go false w e = absurd (subst T (sym e) tt)
 
 -- and its figures are those of the table
-rating_is : (t : Table) (l i : ℕ) → acceptable (with_drops t i) ≡ true → width_good l ≡ true → rating t l i ≡ rating_of (measured (with_drops t i) l)
+rating_is : (t : Table) (l i : ℕ) → acceptable (with_drops t i) ≡ true → width_good l ≡ true → rating t l i ≡ rating_of (Some (measured (with_drops t i) l))
 unfolding rating figures_of
 rating_is t l i a w = rw (a, w) refl
 

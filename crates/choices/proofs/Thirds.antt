@@ -1,13 +1,8 @@
 -- Choices that differ in q3 only.
 -- Assumes nothing.
-use Prim.Native.Nat.{ℕ, ◌+◌, ◌*◌, ◌/◌, ◌%◌, ◌≤◌, ◌<◌}
-use native.Mathlib.Nat.{div-add-mod, mod-lt, mul-le-mul_left}
-use native.Mathlib.Omega.{arith}
-use mathlib.Core.Path.{◌≡◌, refl, sym, ap, subst}
-use mathlib.Core.Bool.{true, ◌&&◌}
-use lib.Dec.{T, leb, ltb}
-use lib.IntN.{ℤ}
-use mir.Facts.{and_yes, yes_and}
+use Rattle.std.proofs.Common.{ℕ, ◌+◌, ◌*◌, ◌/◌, ◌%◌, ◌≤◌, ◌<◌, mod-lt, mul-le-mul_left, arith, ◌≡◌, refl, sym, ap, subst, true, ◌&&◌, T, leb, ltb, ℤ}
+use Rattle.std.proofs.Math.Nat.{div-add-mod}
+use Rattle.std.proofs.Math.Facts.{and_yes, yes_and}
 use Rattle.arith.specs.Part.{pos_part, neg_part}
 use Rattle.arith.proofs.Bools.{true_of}
 use Rattle.arith.proofs.Sums.{sum_mono}

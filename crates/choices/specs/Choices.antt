@@ -1,6 +1,6 @@
 -- Which choices of the three drops are worth having.
 -- Assumes nothing.
-use Rattle.std.specs.Prelude.{ℕ, ◌*◌, ◌/◌, ◌%◌, min, Bool, not, ◌&&◌, ◌||◌, leb, ltb}
+use Rattle.std.specs.Prelude.{ℕ, ◌*◌, ◌/◌, ◌%◌, min, Option, Some, None, Bool, true, false, not, ◌&&◌, ◌||◌, leb, ltb}
 use Rattle.arith.specs.All.{all}
 use Rattle.layout.specs.declared.Table.{Table}
 use Rattle.figures.specs.declared.Figures.{Figures}
@@ -22,8 +22,9 @@ pub record Rating : Type 0 where
   pub below : ℕ
   pub above : ℕ
 
-abbrev pub rating_of : Figures → Rating
-rating_of f = record { accepted = f.accepted; sums = f.sums; below = f.below; above = f.above }
+abbrev pub rating_of : Option Figures → Rating
+rating_of (Some f) = record { accepted = true; sums = f.sums; below = f.below; above = f.above }
+rating_of None = record { accepted = false; sums = 0; below = 0; above = 0 }
 
 -- y beats x: it is accepted, each of its three figures is at most that of x, and one of them is less
 unfoldable pub beats : (y x : Rating) → Bool

@@ -1,12 +1,9 @@
--- The ratings as they are stored: three numbers of each choice, in three stores. 0 bits stand for a choice that is not accepted.
+-- The ratings by the figures that are stored of each choice.
 -- Assumes nothing.
-use Rattle.std.specs.Prelude.{ℕ, List, ltb, get_or}
-use Rattle.choices.specs.Choices.{Rating}
+use Rattle.std.specs.Prelude.{ℕ, List, get_or, Option, None}
+use Rattle.figures.specs.declared.Figures.{Figures}
+use Rattle.choices.specs.Choices.{Rating, rating_of}
 
--- the rating of three numbers
-abbrev pub rated_by : (sums below above : ℕ) → Rating
-rated_by sums below above = record { accepted = ltb 0 sums; sums = sums; below = below; above = above }
-
--- the rating that stands at place i
-abbrev pub stored : (sums below above : List ℕ) → (i : ℕ) → Rating
-stored sums below above i = rated_by (get_or sums i 0) (get_or below i 0) (get_or above i 0)
+-- the rating of the figures at place i
+abbrev pub stored : List (Option Figures) → (i : ℕ) → Rating
+stored fs i = rating_of (get_or fs i None)

@@ -1,83 +1,68 @@
-// Which choices are listed.
-ghost use Rattle.std.specs.Prelude.{◌≡◌, cond, ◌<◌, ◌≤◌, ◌++◌, length, drop};
+//! Which choices are listed.
+ghost use Rattle.std.specs.Prelude.{◌≡◌, ◌<◌, ◌++◌, length, drop, Some};
 ghost use Rattle.arith.specs.Tab.{tab};
-ghost use Rattle.choices.specs.Choices.{choice_count, listed, beats, unbeaten};
-ghost use Rattle.choices.specs.Stores.{rated_by, stored};
+ghost use Rattle.choices.specs.Choices.{choice_count, listed, rating_of, beats, unbeaten};
+ghost use Rattle.choices.specs.Stores.{stored};
 
 use crate::ratings::{choice_count, rate};
+use figures::Figures;
 use layout::Table;
 
-// Whether three numbers, of which 0 bits stand for what is not accepted, beat three others.
-fn beats(sums: u64, below: u64, above: u64, s: u64, b: u64, a: u64) -> bool
-    ensures { result ≡ beats (rated_by sums below above) (rated_by s b a) }
+/// Whether one accepted choice beats another, by their figures.
+#[tactic(auto, unfolding(crate::specs::Choices::beats))]
+fn is_better(one: Figures, other: Figures) -> bool
+    ensures { result ≡ beats (rating_of (Some one)) (rating_of (Some other)) }
 {
-    if sums == 0 {
-        return false;
-    }
-    if s < sums {
-        return false;
-    }
-    if b < below {
-        return false;
-    }
-    if a < above {
-        return false;
-    }
-    if sums < s {
-        return true;
-    }
-    if below < b {
-        return true;
-    }
-    above < a
+    let no_worse = one.sums <= other.sums && one.below <= other.below && one.above <= other.above;
+    no_worse && (one.sums < other.sums || one.below < other.below || one.above < other.above)
 }
 
-// Whether choice i is accepted and none of the first n beats it.
-fn unbeaten(sums: &[u64], below: &[u64], above: &[u64], n: usize, i: usize) -> bool
-    requires { (n ≤ length sums.now) × (n ≤ length below.now) × (n ≤ length above.now) × (i < n) }
-    ensures { result ≡ unbeaten n (stored sums.now below.now above.now) i }
+/// Whether a choice beats an accepted one.
+#[tactic(auto, unfolding(crate::specs::Choices::beats))]
+fn beats(choice: Option<Figures>, other: Figures) -> bool
+    ensures { result ≡ beats (rating_of choice) (rating_of (Some other)) }
 {
-    let s = sums[i];
-    let b = below[i];
-    let a = above[i];
-    if s == 0 {
-        return false;
+    match choice {
+        Some(one) => is_better(one, other),
+        None => false,
     }
-    let mut j = 0;
-    while j < n {
-        if beats(sums[j], below[j], above[j], s, b, a) {
+}
+
+/// Whether choice i is accepted and none of them beats it.
+fn unbeaten(figures: &[Option<Figures>], i: usize) -> bool
+    requires { i < length figures.now }
+    ensures { result ≡ unbeaten (length figures.now) (stored figures.now) i }
+{
+    let Some(own) = figures[i] else {
+        return false;
+    };
+    for &choice in figures {
+        if beats(choice, own) {
             return false;
         }
-        j += 1;
     }
     true
 }
 
-// 1 for the choices among the first n that are listed, 0 for the others.
-fn mark_each(sums: &[u64], below: &[u64], above: &[u64], n: usize, marks: &mut [u8])
-    requires { (n ≤ length sums.now) × (n ≤ length below.now) × (n ≤ length above.now) × (n ≤ length marks.old) }
-    ensures { marks.new
-        ≡ tab n (λ i. cond (unbeaten n (stored sums.now below.now above.now) i) 1 0)
-        ++ drop n marks.old }
+/// Which choices are listed, by the figures of all.
+fn mark_each(figures: &[Option<Figures>], marks: &mut [bool])
+    requires { length marks.old ≡ length figures.now }
+    ensures { marks.new ≡ tab (length marks.old) (unbeaten (length figures.now) (stored figures.now)) }
 {
-    let mut i = 0;
-    while i < n {
-        marks[i] = unbeaten(sums, below, above, n, i) as u8;
-        i += 1;
+    for (i, mark) in marks.iter_mut().enumerate() {
+        *mark = unbeaten(figures, i);
     }
 }
 
-// Marks the choices of a table at a width: 1 where a choice is listed, 0 where it is not, from the start of `marks`. Answers how many
-// choices there are.
-pub fn mark(t: Table, width: usize, marks: &mut [u8; 972]) -> usize
-    ensures value { result ≡ choice_count t }
-    ensures marks_after { marks.new ≡ tab (choice_count t) (λ i. cond (listed t width i) 1 0) ++ drop (choice_count t) marks.old }
+/// Marks the choices of a table at a width that are listed, from the start of `marks`. Answers how many choices there are.
+pub fn mark(t: &Table, width: usize, marks: &mut [bool; 972]) -> usize
+    ensures value { result ≡ choice_count t.now }
+    ensures marks_after { marks.new ≡ tab (choice_count t.now) (listed t.now width) ++ drop (choice_count t.now) marks.old }
 {
     let n = choice_count(t);
-    let mut sums = [0u64; 972];
-    let mut below = [0u64; 972];
-    let mut above = [0u64; 972];
-    rate(t, width, n, &mut sums, &mut below, &mut above);
-    mark_each(&sums, &below, &above, n, marks);
+    let mut store = [None; 972];
+    let figures = &mut store[..n];
+    rate(t, width, figures);
+    mark_each(figures, &mut marks[..n]);
     n
 }

@@ -1,21 +1,8 @@
 -- A word that is read digit by digit.
 -- Assumes nothing.
-use Prim.Native.Nat.{ℕ, zero, suc, ◌+◌, ◌-◌, ◌*◌, ◌≤◌, ◌<◌, min}
-use native.Mathlib.Omega.{arith}
-use mathlib.Core.Path.{◌≡◌, refl, sym, ap, subst}
-use mathlib.Core.Bool.{true, false}
-use mathlib.Core.List.{List, [], ◌∷◌}
-use lib.Dec.{T, leb, leb→le}
-use lib.ListN.{length, get_or, drop, drop_of_length-le}
-use lib.Seq.{drop-cons}
-use mir.Facts.{and_yes}
-use borrow.Author.Tests.{lt-ltb, le-ltb}
-use Rattle.choicetext.specs.declared.numbers.Word.TheVariants.{Number, Other}
+use Rattle.std.proofs.Common.{ℕ, zero, suc, ◌+◌, ◌-◌, ◌*◌, ◌≤◌, ◌<◌, min, arith, ◌≡◌, refl, sym, ap, subst, true, false, List, [], ◌∷◌, T, leb, leb→le, length, get_or, drop, drop_of_length-le, drop-cons, lt-ltb, le-ltb, Some, None}
+use Rattle.std.proofs.Math.Facts.{and_yes}
 use Rattle.choicetext.specs.Numbers.{digit, all_digits, spells, number_most, number_of}
-
-pub some : {n : ℕ} → ¬ (n ≡ 0) → 0 < n
-some {n = zero} h = absurd (h refl)
-some {n = suc n} h = omega arith
 
 pub digit_least : (b : ℕ) → digit b ≡ true → 48 ≤ b
 unfolding digit
@@ -46,14 +33,14 @@ capped [] m n e = e
 capped (b ∷ w) m n e = capped w (m * 10 + (b - 48)) (n * 10 + (b - 48)) (omega arith)
 
 -- the three ways out
-pub number_empty : (w : List ℕ) → length w ≡ 0 → Other ≡ number_of w
+pub number_empty : (w : List ℕ) → length w ≡ 0 → None ≡ number_of w
 unfolding number_of
 number_empty w e = rw (le-ltb 0 (length w) (omega arith)) refl
 
-pub number_other : (w : List ℕ) → 0 < length w → all_digits w ≡ false → Other ≡ number_of w
+pub number_other : (w : List ℕ) → 0 < length w → all_digits w ≡ false → None ≡ number_of w
 unfolding number_of
 number_other w h e = rw (lt-ltb 0 (length w) h, e) refl
 
-pub number_read : (w : List ℕ) {n : ℕ} → 0 < length w → all_digits w ≡ true → n ≡ min number_most (spells 0 w) → Number n ≡ number_of w
+pub number_read : (w : List ℕ) {n : ℕ} → 0 < length w → all_digits w ≡ true → n ≡ min number_most (spells 0 w) → Some n ≡ number_of w
 unfolding number_of
-number_read w h e r = rw (lt-ltb 0 (length w) h, e) (ap Number r)
+number_read w h e r = rw (lt-ltb 0 (length w) h, e) (ap Some r)

@@ -1,9 +1,7 @@
 -- A number as a word of the command line, and what is said of a word that is none.
 -- Assumes nothing.
-use Rattle.std.specs.Prelude.{ℕ, ◌+◌, ◌-◌, ◌*◌, min, Bool, true, cond, ◌&&◌, List, [], ◌∷◌, ◌++◌, leb, ltb, length}
+use Rattle.std.specs.Prelude.{ℕ, ◌+◌, ◌-◌, ◌*◌, min, Option, Some, None, Bool, true, cond, ◌&&◌, List, [], ◌∷◌, ◌++◌, leb, ltb, length}
 use Rattle.text.specs.Ascii.{ascii}
-use Rattle.choicetext.specs.declared.numbers.Word.{Word}
-use Rattle.choicetext.specs.declared.numbers.Word.TheVariants.{Number, Other}
 
 unfoldable pub digit : ℕ → Bool
 digit b = leb 48 b && leb b 57
@@ -22,8 +20,8 @@ abbrev pub number_most : ℕ
 number_most = 1000000000000000000
 
 -- one digit or more, or no number
-unfoldable pub number_of : List ℕ → Word
-number_of w = cond (ltb 0 (length w) && all_digits w) (Number (min number_most (spells 0 w))) Other
+unfoldable pub number_of : List ℕ → Option ℕ
+number_of w = cond (ltb 0 (length w) && all_digits w) (Some (min number_most (spells 0 w))) None
 
 -- a word that is no number
 unfoldable pub no_number_text : (what word : List ℕ) → List ℕ

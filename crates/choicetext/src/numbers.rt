@@ -1,64 +1,61 @@
-// A number as a word of the command line.
+//! A number as a word of the command line.
 ghost use Rattle.std.specs.Prelude.{◌≡◌, ◌+◌, ◌-◌, ◌*◌, ◌≤◌, min, length};
 ghost use Rattle.choicetext.specs.Numbers.{digit, number_most, number_of, no_number_text};
 ghost use Rattle.text.specs.Text.{Put};
 
-use crate::cells::put_bytes;
+/// 10^18: a number is held as it where it is larger.
+const NUMBER_MOST: u64 = 1000000000000000000;
 
-// What a word is: a number, 10^18 where it is larger, or no number.
-#[derive(Clone, Copy)]
-pub enum Word {
-    Number(u64),
-    Other,
-}
-
+/// Whether a byte is a digit.
+#[tactic(auto, unfolding(crate::specs::Numbers::digit))]
 fn digit(b: u8) -> bool
     ensures { result ≡ digit b }
 {
-    if 48 <= b { b <= 57 } else { false }
+    (b'0'..=b'9').contains(&b)
 }
 
-// One digit more.
+/// One digit more.
 fn next(n: u64, b: u8) -> u64
     requires { (n ≤ number_most) × (48 ≤ b) }
     ensures { result ≡ min number_most (n * 10 + (b - 48)) }
 {
-    let m = n * 10 + (b - 48) as u64;
-    if m < 1000000000000000000 {
-        m
-    } else {
-        1000000000000000000
-    }
+    NUMBER_MOST.min(n * 10 + u64::from(b - b'0'))
 }
 
-// The number that a word is.
-pub fn number(w: &[u8]) -> Word
+/// The number that a word is, where it is one.
+pub fn number(w: &[u8]) -> Option<u64>
     ensures { result ≡ number_of w.now }
 {
-    if w.len() == 0 {
-        return Word::Other;
+    if w.is_empty() {
+        return None;
     }
     let mut n = 0;
-    let mut i = 0;
-    while i < w.len() {
-        let b = w[i];
+    for &b in w {
         if !digit(b) {
-            return Word::Other;
+            return None;
         }
         n = next(n, b);
-        i += 1;
     }
-    Word::Number(n)
+    Some(n)
 }
 
-// What stands for no MOST: every choice is within it.
+/// What stands for no MOST: every choice is within it.
 pub fn no_most() -> u64
     ensures { result ≡ number_most }
 {
-    1000000000000000000
+    NUMBER_MOST
 }
 
-// A word that is no number, and what it stands for.
+/// Text for which there is room.
+fn put_bytes(out: &mut [u8], at: usize, text: &[u8]) -> usize
+    requires { at + length text.now ≤ length out.old }
+    ensures { Put out.old at text.now out.new result }
+{
+    text::put_bytes(out, at, text)
+}
+
+/// A word that is no number, and what it stands for. A word of the command line need be no text, so that no `Display` can print it, and a
+/// line that was allocated could fail.
 pub fn put_no_number(out: &mut [u8], what: &[u8], word: &[u8]) -> usize
     requires { length what.now + length word.now + 32 ≤ length out.old }
     ensures { Put out.old 0 (no_number_text what.now word.now) out.new result }

@@ -1,49 +1,80 @@
-// What the words of stripfilter's command line come to, word by word.
-//
-//   next   what the command line comes to with one word more
-//   ended  what it comes to when there are no more words
+//! What the words of stripfilter's command line come to, word by word.
+//!
+//!   Begun::next   what the words so far come to with one word more
+//!   Begun::ended  what they come to when there are no more
 #![tactic(auto)]
 
 mod line;
 
-pub use line::{ended, next};
-
-// A word of the command line.
-#[derive(Clone, Copy)]
+/// A word of the command line.
+#[derive(Clone, Copy, Debug, PartialEq, Eq)]
 pub enum Word {
     Values,
     Rank,
     Help,
     Version,
-    // begins with - and is none of these
-    Option,
-    // digits; 65,536 stands for whatever is larger
+    /// begins with - and is none of these
+    Dashed,
+    /// digits; 65,536 stands for whatever is larger
     Number(u32),
-    // anything else names a table
+    /// anything else names a table
     Table,
 }
 
-// What the words of the command line come to.
-#[derive(Clone, Copy)]
-pub enum Command {
-    // filter by the table that word `1` names, 0 while there is none; the first says whether values are asked for
-    Filter(bool, usize),
-    // filter by a ranked window; the first says whether values are asked for
-    Ranked(bool, Ranking),
-    Help,
-    Version,
-    // the word at this place is no option; no number
-    Unknown(usize),
-    NoNumber(usize),
-    // no table, or two; fewer or more than three numbers
-    Usage,
+/// How filtered rows are to be written: as a picture, or as decimal numbers.
+#[derive(Clone, Copy, Debug, PartialEq, Eq)]
+pub enum Output {
+    Picture,
+    Numbers,
 }
 
-// The numbers after --rank: how many of the three were given, R, and the rows and columns of the window.
-#[derive(Clone, Copy)]
+/// A ranked window: its rank, rows and columns.
+#[derive(Clone, Copy, Debug, PartialEq, Eq)]
 pub struct Ranking {
-    pub given: u32,
     pub rank: u32,
     pub rows: u32,
     pub columns: u32,
+}
+
+/// The numbers after --rank, as far as they were given.
+#[derive(Clone, Copy, Debug, PartialEq, Eq)]
+pub enum Given {
+    Nothing,
+    Rank(u32),
+    Rows { rank: u32, rows: u32 },
+    All(Ranking),
+}
+
+/// What the command line asks for.
+#[derive(Clone, Copy, Debug, PartialEq, Eq)]
+pub enum Command {
+    /// to filter by the table that the word at this place names
+    Filter { output: Output, table: usize },
+    /// to filter by a ranked window
+    Ranked { output: Output, ranking: Ranking },
+    Help,
+    Version,
+    /// the word at this place is no option
+    Unknown(usize),
+    /// the word at this place is no number
+    NoNumber(usize),
+    /// no table, or two; fewer or more than three numbers
+    Usage,
+}
+
+/// What the words so far come to.
+#[derive(Clone, Copy, Debug, PartialEq, Eq)]
+pub enum Begun {
+    /// to filter by a table, which the word at this place names
+    Filter {
+        output: Output,
+        table: Option<usize>,
+    },
+    /// to filter by a ranked window
+    Ranked {
+        output: Output,
+        given: Given,
+    },
+    /// a command, whatever follows
+    Settled(Command),
 }

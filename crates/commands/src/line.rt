@@ -1,182 +1,145 @@
-// The words of the command line.
+//! The words of the command line.
 ghost use Rattle.std.specs.Prelude.{◌≡◌};
-ghost use Rattle.commands.specs.Commands.{plain_of, word_of, table_at, rank_after, numbered_of, next_of, ended_of};
+ghost use Rattle.words.specs.Words.{same};
+ghost use Rattle.commands.specs.Commands.{plain_of, word_of, numbered_of, next_of, ended_of};
 
-use crate::{Command, Ranking, Word};
-use words::same;
+use crate::{Begun, Command, Given, Output, Ranking, Word};
 
-// What a word is that is no option's name.
+/// What a word is that is no option's name.
+#[tactic(auto, unfolding(crate::specs::Commands::plain_of))]
 fn plain(w: &[u8]) -> Word
     ensures { result ≡ plain_of w.now }
 {
-    if w.len() == 0 {
+    if w.is_empty() {
         return Word::Table;
     }
     if w[0] == b'-' {
-        return Word::Option;
+        return Word::Dashed;
     }
     let n = pgm::number(w, 0);
     if n.end == w.len() {
-        return Word::Number(n.value);
+        Word::Number(n.value)
+    } else {
+        Word::Table
     }
-    Word::Table
 }
 
-// What a word is.
+/// Whether a word is this one.
+fn is(w: &[u8], name: &[u8]) -> bool
+    ensures { result ≡ same w.now name.now }
+{
+    w == name
+}
+
+/// What a word is.
+#[tactic(auto, unfolding(crate::specs::Commands::word_of, text::specs::Ascii::ascii))]
 fn word(w: &[u8]) -> Word
     ensures { result ≡ word_of w.now }
 {
-    if same(w, b"--values") {
-        return Word::Values;
-    }
-    if same(w, b"--rank") {
-        return Word::Rank;
-    }
-    if same(w, b"--help") {
-        return Word::Help;
-    }
-    if same(w, b"-h") {
-        return Word::Help;
-    }
-    if same(w, b"--version") {
-        return Word::Version;
-    }
-    plain(w)
-}
-
-// Names the table by the word at place i.
-fn table_at(values: bool, table: usize, i: usize) -> Command
-    ensures { result ≡ table_at values table i }
-{
-    if table == 0 {
-        Command::Filter(values, i)
+    if is(w, b"--values") {
+        Word::Values
+    } else if is(w, b"--rank") {
+        Word::Rank
+    } else if is(w, b"--help") || is(w, b"-h") {
+        Word::Help
+    } else if is(w, b"--version") {
+        Word::Version
     } else {
-        Command::Usage
+        plain(w)
     }
 }
 
-// Begins the numbers of a ranked window.
-fn rank_after(values: bool, table: usize) -> Command
-    ensures { result ≡ rank_after values table }
+/// The next of the three numbers of a ranked window.
+#[tactic(auto, unfolding(crate::specs::Commands::numbered_of))]
+fn numbered(output: Output, given: Given, n: u32) -> Begun
+    ensures { result ≡ numbered_of output given n }
 {
-    if table == 0 {
-        Command::Ranked(
-            values,
-            Ranking {
-                given: 0,
-                rank: 0,
-                rows: 0,
-                columns: 0,
-            },
-        )
-    } else {
-        Command::Usage
-    }
+    let given = match given {
+        Given::Nothing => Given::Rank(n),
+        Given::Rank(rank) => Given::Rows { rank, rows: n },
+        Given::Rows { rank, rows } => Given::All(Ranking {
+            rank,
+            rows,
+            columns: n,
+        }),
+        Given::All(_) => return Begun::Settled(Command::Usage),
+    };
+    Begun::Ranked { output, given }
 }
 
-// What a table or none comes to with one word more, at place i.
-fn after(values: bool, table: usize, i: usize, w: Word) -> Command
-    ensures { result ≡ next_of (Command.Filter values table) i w }
-{
-    match w {
-        Word::Values => Command::Filter(true, table),
-        Word::Rank => rank_after(values, table),
-        Word::Help => Command::Help,
-        Word::Version => Command::Version,
-        Word::Option => Command::Unknown(i),
-        Word::Number(_) => table_at(values, table, i),
-        Word::Table => table_at(values, table, i),
-    }
-}
-
-// The next of the three numbers of a ranked window.
-fn numbered(values: bool, r: Ranking, n: u32) -> Command
-    ensures { result ≡ numbered_of values r n }
-{
-    if r.given == 0 {
-        return Command::Ranked(
-            values,
-            Ranking {
-                given: 1,
-                rank: n,
-                rows: 0,
-                columns: 0,
+impl Begun {
+    /// What a table or none comes to with one word more, at place i.
+    #[tactic(auto, unfolding(crate::specs::Commands::next_of))]
+    fn filter(output: Output, table: Option<usize>, i: usize, w: Word) -> Begun
+        ensures { result ≡ next_of (Begun.Filter output table) i w }
+    {
+        match (w, table) {
+            (Word::Values, _) => Begun::Filter {
+                output: Output::Numbers,
+                table,
             },
-        );
-    }
-    if r.given == 1 {
-        return Command::Ranked(
-            values,
-            Ranking {
-                given: 2,
-                rank: r.rank,
-                rows: n,
-                columns: 0,
+            (Word::Rank, None) => Begun::Ranked {
+                output,
+                given: Given::Nothing,
             },
-        );
-    }
-    if r.given == 2 {
-        return Command::Ranked(
-            values,
-            Ranking {
-                given: 3,
-                rank: r.rank,
-                rows: r.rows,
-                columns: n,
+            (Word::Number(_) | Word::Table, None) => Begun::Filter {
+                output,
+                table: Some(i),
             },
-        );
-    }
-    Command::Usage
-}
-
-// What a ranked window comes to with one word more, at place i.
-fn ranked(values: bool, r: Ranking, i: usize, w: Word) -> Command
-    ensures { result ≡ next_of (Command.Ranked values r) i w }
-{
-    match w {
-        Word::Values => Command::Ranked(true, r),
-        Word::Rank => Command::Usage,
-        Word::Help => Command::Help,
-        Word::Version => Command::Version,
-        Word::Option => Command::Unknown(i),
-        Word::Number(n) => numbered(values, r, n),
-        Word::Table => {
-            if r.given == 3 {
-                Command::Usage
-            } else {
-                Command::NoNumber(i)
-            }
+            (Word::Rank | Word::Number(_) | Word::Table, Some(_)) => Begun::Settled(Command::Usage),
+            (Word::Help, _) => Begun::Settled(Command::Help),
+            (Word::Version, _) => Begun::Settled(Command::Version),
+            (Word::Dashed, _) => Begun::Settled(Command::Unknown(i)),
         }
     }
-}
 
-// What the command line comes to with one word more, at place i: the first word that settles it does.
-pub fn next(c: Command, i: usize, w: &[u8]) -> Command
-    ensures { result ≡ next_of c i (word_of w.now) }
-{
-    let kind = word(w);
-    match c {
-        Command::Filter(values, table) => after(values, table, i, kind),
-        Command::Ranked(values, r) => ranked(values, r, i, kind),
-        Command::Help => c,
-        Command::Version => c,
-        Command::Unknown(_) => c,
-        Command::NoNumber(_) => c,
-        Command::Usage => c,
+    /// What a ranked window comes to with one word more, at place i.
+    #[tactic(auto, unfolding(crate::specs::Commands::next_of))]
+    fn ranked(output: Output, given: Given, i: usize, w: Word) -> Begun
+        ensures { result ≡ next_of (Begun.Ranked output given) i w }
+    {
+        match (w, given) {
+            (Word::Values, _) => Begun::Ranked {
+                output: Output::Numbers,
+                given,
+            },
+            (Word::Number(n), _) => numbered(output, given, n),
+            (Word::Rank, _) | (Word::Table, Given::All(_)) => Begun::Settled(Command::Usage),
+            (Word::Table, _) => Begun::Settled(Command::NoNumber(i)),
+            (Word::Help, _) => Begun::Settled(Command::Help),
+            (Word::Version, _) => Begun::Settled(Command::Version),
+            (Word::Dashed, _) => Begun::Settled(Command::Unknown(i)),
+        }
     }
-}
 
-// What it comes to when there are no more words.
-pub fn ended(c: Command) -> Command
-    ensures { result ≡ ended_of c }
-{
-    match c {
-        Command::Filter(_, table) => { if table == 0 { Command::Usage } else { c } }
-        Command::Ranked(_, r) => { if r.given == 3 { c } else { Command::Usage } }
-        Command::Help => c,
-        Command::Version => c,
-        Command::Unknown(_) => c,
-        Command::NoNumber(_) => c,
-        Command::Usage => c,
+    /// What the words come to with one word more, at place i: the first word that settles it does.
+    #[tactic(auto, unfolding(crate::specs::Commands::next_of))]
+    pub fn next(self, i: usize, w: &[u8]) -> Begun
+        ensures { result ≡ next_of self i (word_of w.now) }
+    {
+        match self {
+            Begun::Filter { output, table } => Begun::filter(output, table, i, word(w)),
+            Begun::Ranked { output, given } => Begun::ranked(output, given, i, word(w)),
+            Begun::Settled(_) => self,
+        }
+    }
+
+    /// What they come to when there are no more words.
+    #[tactic(auto, unfolding(crate::specs::Commands::ended_of))]
+    pub fn ended(self) -> Command
+        ensures { result ≡ ended_of self }
+    {
+        match self {
+            Begun::Filter {
+                output,
+                table: Some(table),
+            } => Command::Filter { output, table },
+            Begun::Ranked {
+                output,
+                given: Given::All(ranking),
+            } => Command::Ranked { output, ranking },
+            Begun::Settled(command) => command,
+            Begun::Filter { .. } | Begun::Ranked { .. } => Command::Usage,
+        }
     }
 }

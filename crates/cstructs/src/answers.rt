@@ -1,18 +1,43 @@
-// What the answers of several calls have in common, as C has it.
+//! What the answers of several calls have in common, as C has it.
 ghost use Rattle.std.specs.Prelude.{◌≡◌};
-ghost use Rattle.layout.specs.Answers.{said, answer_said, closing_said};
+ghost use Rattle.layout.specs.Answers.{no_said, said, answer_said, closing_said};
 ghost use Rattle.cstructs.specs.Answers.{refusal_c, head_c};
 
-use layout::{Answer, Closing, Verdict};
+use layout::{Answer, Closing};
 
-// The number and the place of a refusal, 0 and 0 where there is none.
+/// The number and the place of a refusal, 0 and 0 where there is none.
 #[derive(Clone, Copy)]
 pub struct Refusal {
     pub number: u32,
     pub place: u32,
 }
 
-// The kind of an answer, 0 refused, 1 row, 2 waiting, 3 done; the number of the question or of the row, and the place.
+impl From<layout::Refusal> for Refusal {
+    ghost from_gives = { λ no r. r ≡ refusal_c (no_said no) };
+
+    fn from(no: layout::Refusal) -> Refusal {
+        Refusal {
+            number: no.question.number(),
+            place: no.place,
+        }
+    }
+}
+
+impl From<Result<(), layout::Refusal>> for Refusal {
+    ghost from_gives = { λ v r. r ≡ refusal_c (said v) };
+
+    fn from(verdict: Result<(), layout::Refusal>) -> Refusal {
+        match verdict {
+            Err(no) => no.into(),
+            Ok(()) => Refusal {
+                number: 0,
+                place: 0,
+            },
+        }
+    }
+}
+
+/// The kind of an answer, 0 refused, 1 row, 2 waiting, 3 done; the number of the question or of the row, and the place.
 #[derive(Clone, Copy)]
 pub struct Head {
     pub kind: u32,
@@ -20,20 +45,7 @@ pub struct Head {
     pub place: u32,
 }
 
-// The refusal of a verdict.
-pub fn refusal_of(v: Verdict) -> Refusal
-    ensures { result ≡ refusal_c (said v) }
-{
-    match v {
-        Verdict::Refused(number, place) => Refusal { number, place },
-        Verdict::Accepted => Refusal {
-            number: 0,
-            place: 0,
-        },
-    }
-}
-
-// A head of these parts.
+/// A head of these parts.
 fn head_of(kind: u32, number: u32, place: u32) -> Head
     ensures { result ≡ record { kind = kind; number = number; place = place } }
 {
@@ -44,25 +56,27 @@ fn head_of(kind: u32, number: u32, place: u32) -> Head
     }
 }
 
-// The head of a row's answer.
-pub fn row_head(a: Answer) -> Head
-    ensures { result ≡ head_c (answer_said a) }
-{
-    match a {
-        Answer::Refused(number, place) => head_of(0, number, place),
-        Answer::Row(number) => head_of(1, number, 0),
-        Answer::Waiting => head_of(2, 0, 0),
+impl From<Answer> for Head {
+    ghost from_gives = { λ a h. h ≡ head_c (answer_said a) };
+
+    fn from(answer: Answer) -> Head {
+        match answer {
+            Answer::Refused(number, place) => head_of(0, number, place),
+            Answer::Row(number) => head_of(1, number, 0),
+            Answer::Waiting => head_of(2, 0, 0),
+        }
     }
 }
 
-// The head of a closing step's answer.
-pub fn step_head(a: Closing) -> Head
-    ensures { result ≡ head_c (closing_said a) }
-{
-    match a {
-        Closing::Refused(number, place) => head_of(0, number, place),
-        Closing::Row(number) => head_of(1, number, 0),
-        Closing::Waiting => head_of(2, 0, 0),
-        Closing::Done => head_of(3, 0, 0),
+impl From<Closing> for Head {
+    ghost from_gives = { λ a h. h ≡ head_c (closing_said a) };
+
+    fn from(answer: Closing) -> Head {
+        match answer {
+            Closing::Refused(number, place) => head_of(0, number, place),
+            Closing::Row(number) => head_of(1, number, 0),
+            Closing::Waiting => head_of(2, 0, 0),
+            Closing::Done => head_of(3, 0, 0),
+        }
     }
 }

@@ -1,15 +1,15 @@
-// What a burst answers, as C has it.
+//! What a burst answers, as C has it.
 ghost use Rattle.std.specs.Prelude.{◌≡◌};
 ghost use Rattle.burst.specs.Bursts.{burst_said};
 ghost use Rattle.cstructs.specs.Answers.{burst_c};
 
-use crate::answers::{Refusal, refusal_of};
+use crate::answers::Refusal;
 use burst::Burst;
 use scan::Scan;
 
-// strip_burst
+/// strip_burst
 #[repr(C)]
-#[derive(Clone, Copy)]
+#[derive(Clone, Copy, Debug, PartialEq, Eq)]
 pub struct BurstAnswer {
     pub refusal: u32,
     pub place: u32,
@@ -18,23 +18,17 @@ pub struct BurstAnswer {
     pub scan: Scan,
 }
 
-// A strip_burst of these parts.
-fn burst_of(r: Refusal, taken: usize, filtered: usize, scan: Scan) -> BurstAnswer
-    ensures { result ≡ record { refusal = r.number; place = r.place; taken = taken; filtered = filtered; scan = scan } }
-{
-    BurstAnswer {
-        refusal: r.number,
-        place: r.place,
-        taken,
-        filtered,
-        scan,
-    }
-}
+impl From<Burst> for BurstAnswer {
+    ghost from_gives = { λ b a. a ≡ burst_c (burst_said b) b.scan };
 
-// What a burst comes to, as C has it.
-pub fn burst_counted(b: Burst) -> BurstAnswer
-    ensures { result ≡ burst_c (burst_said b) b.scan }
-{
-    let v = b.verdict;
-    burst_of(refusal_of(v), b.taken, b.filtered, b.scan)
+    fn from(burst: Burst) -> BurstAnswer {
+        let refusal = Refusal::from(burst.verdict);
+        BurstAnswer {
+            refusal: refusal.number,
+            place: refusal.place,
+            taken: burst.taken,
+            filtered: burst.filtered,
+            scan: burst.scan,
+        }
+    }
 }

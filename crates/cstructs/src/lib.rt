@@ -1,4 +1,4 @@
-// Inner: the structs of the header include/strip.h, each from what a call answers.
+//! Inner: the structs of the header include/strip.h, each made by `From` of what a call answers.
 #![tactic(auto)]
 
 mod answers;
@@ -9,9 +9,9 @@ mod sameness;
 mod scans;
 mod tables;
 
-pub use bursts::{BurstAnswer, burst_counted};
-pub use pixels::{PixelAnswer, pixel_found};
-pub use ranks::{RankAnswer, RankStarted, rank_moved, rank_started, rank_stepped};
-pub use sameness::{SameAnswer, same_found};
-pub use scans::{ScanAnswer, ScanStarted, scan_moved, scan_started, scan_stepped};
-pub use tables::{TableLoaded, TableWritten, table_loaded, table_written};
+pub use bursts::BurstAnswer;
+pub use pixels::PixelAnswer;
+pub use ranks::{RankAnswer, RankStarted};
+pub use sameness::SameAnswer;
+pub use scans::{ScanAnswer, ScanStarted};
+pub use tables::{TableLoaded, TableWritten};

@@ -1,23 +1,24 @@
-// What a ranked scan answers row by row, as C has it.
+//! What a ranked scan answers row by row, as C has it.
 ghost use Rattle.std.specs.Prelude.{◌≡◌};
 ghost use Rattle.layout.specs.Answers.{said, answer_said, closing_said};
 ghost use Rattle.cstructs.specs.Ranks.{started_c, answer_c};
 
-use crate::answers::{Head, Refusal, refusal_of, row_head, step_head};
+use crate::answers::{Head, Refusal};
 use rank::{Moved, RankScan, Started, Stepped};
 
-// strip_rank_started
+// (C) RankStarted and RankAnswer beside ScanStarted and ScanAnswer: the header names each, and an exported struct has no parameter.
+/// strip_rank_started
 #[repr(C)]
-#[derive(Clone, Copy)]
+#[derive(Clone, Copy, Debug, PartialEq, Eq)]
 pub struct RankStarted {
     pub refusal: u32,
     pub place: u32,
     pub scan: RankScan,
 }
 
-// strip_rank_answer: kind 0 refused, 1 row, 2 waiting, 3 done
+/// strip_rank_answer: kind 0 refused, 1 row, 2 waiting, 3 done
 #[repr(C)]
-#[derive(Clone, Copy)]
+#[derive(Clone, Copy, Debug, PartialEq, Eq)]
 pub struct RankAnswer {
     pub kind: u32,
     pub number: u32,
@@ -25,49 +26,43 @@ pub struct RankAnswer {
     pub scan: RankScan,
 }
 
-// A strip_rank_started of these parts.
-fn start_of(r: Refusal, scan: RankScan) -> RankStarted
-    ensures { result ≡ record { refusal = r.number; place = r.place; scan = scan } }
-{
-    RankStarted {
-        refusal: r.number,
-        place: r.place,
-        scan,
+impl From<Started> for RankStarted {
+    ghost from_gives = { λ s a. a ≡ started_c (said s.verdict) s.scan };
+
+    fn from(started: Started) -> RankStarted {
+        let refusal = Refusal::from(started.verdict);
+        RankStarted {
+            refusal: refusal.number,
+            place: refusal.place,
+            scan: started.scan,
+        }
     }
 }
 
-// A verdict and a scan, as C has them.
-pub fn rank_started(s: Started) -> RankStarted
-    ensures { result ≡ started_c (said s.verdict) s.scan }
-{
-    let v = s.verdict;
-    start_of(refusal_of(v), s.scan)
-}
-
-// A strip_rank_answer of these parts.
-fn answer_of(h: Head, scan: RankScan) -> RankAnswer
-    ensures { result ≡ record { kind = h.kind; number = h.number; place = h.place; scan = scan } }
+/// A strip_rank_answer of these parts.
+fn answer_of(head: Head, scan: RankScan) -> RankAnswer
+    ensures { result ≡ record { kind = head.kind; number = head.number; place = head.place; scan = scan } }
 {
     RankAnswer {
-        kind: h.kind,
-        number: h.number,
-        place: h.place,
+        kind: head.kind,
+        number: head.number,
+        place: head.place,
         scan,
     }
 }
 
-// A row's answer and the scan after it, as C has them.
-pub fn rank_moved(m: Moved) -> RankAnswer
-    ensures { result ≡ answer_c (answer_said m.answer) m.scan }
-{
-    let a = m.answer;
-    answer_of(row_head(a), m.scan)
+impl From<Moved> for RankAnswer {
+    ghost from_gives = { λ m a. a ≡ answer_c (answer_said m.answer) m.scan };
+
+    fn from(moved: Moved) -> RankAnswer {
+        answer_of(moved.answer.into(), moved.scan)
+    }
 }
 
-// A closing step's answer and the scan after it, as C has them.
-pub fn rank_stepped(after: Stepped) -> RankAnswer
-    ensures { result ≡ answer_c (closing_said after.answer) after.scan }
-{
-    let a = after.answer;
-    answer_of(step_head(a), after.scan)
+impl From<Stepped> for RankAnswer {
+    ghost from_gives = { λ m a. a ≡ answer_c (closing_said m.answer) m.scan };
+
+    fn from(stepped: Stepped) -> RankAnswer {
+        answer_of(stepped.answer.into(), stepped.scan)
+    }
 }

@@ -1,13 +1,14 @@
-// What comparing two tables answers, as C has it.
+//! What comparing two tables answers, as C has it.
 ghost use Rattle.std.specs.Prelude.{◌≡◌};
 ghost use Rattle.same.specs.Same.{sameness_said};
 ghost use Rattle.cstructs.specs.Answers.{same_c};
 
-use same::Sameness;
+use layout::Refusal;
+use same::Offset;
 
-// strip_same_answer
+/// strip_same_answer
 #[repr(C)]
-#[derive(Clone, Copy)]
+#[derive(Clone, Copy, Debug, PartialEq, Eq)]
 pub struct SameAnswer {
     pub refusal: u32,
     pub place: u32,
@@ -16,31 +17,32 @@ pub struct SameAnswer {
     pub col: i32,
 }
 
-// Same, the offset or the refusal, as C has it.
-pub fn same_found(s: Sameness) -> SameAnswer
-    ensures { result ≡ same_c (sameness_said s) }
-{
-    match s {
-        Sameness::Refused(number, place) => SameAnswer {
-            refusal: number,
-            place,
-            same: false,
-            row: 0,
-            col: 0,
-        },
-        Sameness::Same => SameAnswer {
-            refusal: 0,
-            place: 0,
-            same: true,
-            row: 0,
-            col: 0,
-        },
-        Sameness::Differs(row, col) => SameAnswer {
-            refusal: 0,
-            place: 0,
-            same: false,
-            row,
-            col,
-        },
+impl From<Result<Option<Offset>, Refusal>> for SameAnswer {
+    ghost from_gives = { λ s a. a ≡ same_c (sameness_said s) };
+
+    fn from(found: Result<Option<Offset>, Refusal>) -> SameAnswer {
+        match found {
+            Err(no) => SameAnswer {
+                refusal: no.question.number(),
+                place: no.place,
+                same: false,
+                row: 0,
+                col: 0,
+            },
+            Ok(None) => SameAnswer {
+                refusal: 0,
+                place: 0,
+                same: true,
+                row: 0,
+                col: 0,
+            },
+            Ok(Some(offset)) => SameAnswer {
+                refusal: 0,
+                place: 0,
+                same: false,
+                row: offset.row,
+                col: offset.col,
+            },
+        }
     }
 }

@@ -1,23 +1,23 @@
-// What a scan answers row by row, as C has it.
+//! What a scan answers row by row, as C has it.
 ghost use Rattle.std.specs.Prelude.{◌≡◌};
 ghost use Rattle.layout.specs.Answers.{said, answer_said, closing_said};
 ghost use Rattle.cstructs.specs.Answers.{started_c, answer_c};
 
-use crate::answers::{Head, Refusal, refusal_of, row_head, step_head};
+use crate::answers::{Head, Refusal};
 use scan::{Moved, Scan, Started, Stepped};
 
-// strip_started
+/// strip_started
 #[repr(C)]
-#[derive(Clone, Copy)]
+#[derive(Clone, Copy, Debug, PartialEq, Eq)]
 pub struct ScanStarted {
     pub refusal: u32,
     pub place: u32,
     pub scan: Scan,
 }
 
-// strip_answer: kind 0 refused, 1 row, 2 waiting, 3 done
+/// strip_answer: kind 0 refused, 1 row, 2 waiting, 3 done
 #[repr(C)]
-#[derive(Clone, Copy)]
+#[derive(Clone, Copy, Debug, PartialEq, Eq)]
 pub struct ScanAnswer {
     pub kind: u32,
     pub number: u32,
@@ -25,49 +25,43 @@ pub struct ScanAnswer {
     pub scan: Scan,
 }
 
-// A strip_started of these parts.
-fn start_of(r: Refusal, scan: Scan) -> ScanStarted
-    ensures { result ≡ record { refusal = r.number; place = r.place; scan = scan } }
-{
-    ScanStarted {
-        refusal: r.number,
-        place: r.place,
-        scan,
+impl From<Started> for ScanStarted {
+    ghost from_gives = { λ s a. a ≡ started_c (said s.verdict) s.scan };
+
+    fn from(started: Started) -> ScanStarted {
+        let refusal = Refusal::from(started.verdict);
+        ScanStarted {
+            refusal: refusal.number,
+            place: refusal.place,
+            scan: started.scan,
+        }
     }
 }
 
-// A verdict and a scan, as C has them.
-pub fn scan_started(s: Started) -> ScanStarted
-    ensures { result ≡ started_c (said s.verdict) s.scan }
-{
-    let v = s.verdict;
-    start_of(refusal_of(v), s.scan)
-}
-
-// A strip_answer of these parts.
-fn answer_of(h: Head, scan: Scan) -> ScanAnswer
-    ensures { result ≡ record { kind = h.kind; number = h.number; place = h.place; scan = scan } }
+/// A strip_answer of these parts.
+fn answer_of(head: Head, scan: Scan) -> ScanAnswer
+    ensures { result ≡ record { kind = head.kind; number = head.number; place = head.place; scan = scan } }
 {
     ScanAnswer {
-        kind: h.kind,
-        number: h.number,
-        place: h.place,
+        kind: head.kind,
+        number: head.number,
+        place: head.place,
         scan,
     }
 }
 
-// A row's answer and the scan after it, as C has them.
-pub fn scan_moved(m: Moved) -> ScanAnswer
-    ensures { result ≡ answer_c (answer_said m.answer) m.scan }
-{
-    let a = m.answer;
-    answer_of(row_head(a), m.scan)
+impl From<Moved> for ScanAnswer {
+    ghost from_gives = { λ m a. a ≡ answer_c (answer_said m.answer) m.scan };
+
+    fn from(moved: Moved) -> ScanAnswer {
+        answer_of(moved.answer.into(), moved.scan)
+    }
 }
 
-// A closing step's answer and the scan after it, as C has them.
-pub fn scan_stepped(after: Stepped) -> ScanAnswer
-    ensures { result ≡ answer_c (closing_said after.answer) after.scan }
-{
-    let a = after.answer;
-    answer_of(step_head(a), after.scan)
+impl From<Stepped> for ScanAnswer {
+    ghost from_gives = { λ m a. a ≡ answer_c (closing_said m.answer) m.scan };
+
+    fn from(stepped: Stepped) -> ScanAnswer {
+        answer_of(stepped.answer.into(), stepped.scan)
+    }
 }

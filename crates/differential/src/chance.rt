@@ -1,28 +1,28 @@
-// Numbers drawn without chance: the same at every run.
+//! Numbers drawn without chance: the same at every run.
 ghost use Rattle.std.specs.Prelude.{◌≤◌};
 
-// One step of a xorshift generator of 64 bits.
+/// One step of a xorshift generator of 64 bits.
 pub fn next(x: u64) -> u64 {
     let a = x ^ (x << 13);
     let b = a ^ (a >> 7);
     b ^ (b << 17)
 }
 
-// A number with its bits mixed.
+/// A number with its bits mixed.
 pub fn mixed(x: u64) -> u64 {
     let a = next(x);
-    let b = next(std::num::wrapping_add_u64(a, x));
-    std::num::wrapping_add_u64(next(b), a)
+    let b = next(a.wrapping_add(x));
+    next(b).wrapping_add(a)
 }
 
-// Number k of those that belong to a seed, at most `most`, which is below 65,536.
+/// Number k of those that belong to a seed, at most `most`, which is below 65,536.
 pub fn draw(seed: u64, k: u64, most: u64) -> u64
     ensures { result ≤ most }
 {
     (mixed(mixed(seed ^ (k << 32)) ^ k) >> 16) % (most % 65536 + 1)
 }
 
-// The same, but `limit` at each sixteenth seed.
+/// The same, but `limit` at each sixteenth seed.
 pub fn pick(seed: u64, k: u64, most: u64, limit: u64) -> u64
     requires { limit ≤ most }
     ensures { result ≤ most }
@@ -32,11 +32,4 @@ pub fn pick(seed: u64, k: u64, most: u64, limit: u64) -> u64
     } else {
         draw(seed, k, most)
     }
-}
-
-// a - b, or 0 where that is negative.
-pub fn less(a: u64, b: u64) -> u64
-    ensures { result ≤ a }
-{
-    if a < b { 0 } else { a - b }
 }

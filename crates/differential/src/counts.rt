@@ -1,117 +1,104 @@
-// What is counted, and the two checksums: one number each, in an array.
-ghost use Rattle.std.specs.Prelude.{◌<◌, ◌≤◌};
-
+//! What is counted of the scans of one kind, and a checksum of the pixels of each filter.
 use crate::chance::next;
-use std::io::Write;
+use crate::runs::Said;
+use std::fmt;
 
-pub const REFUSED: usize = 0;
-
-pub const SCANS: usize = 1;
-
-pub const EMPTY: usize = 2;
-
-pub const SHORT: usize = 3;
-
-pub const DROPS: usize = 4;
-
-pub const BEHIND: usize = 5;
-
-pub const ROWS_IN: usize = 6;
-
-pub const DEAD: usize = 7;
-// waiting, done, refused, a row: four kinds of answer
-pub const ANSWERS: usize = 8;
-
-pub const WRONG: usize = 12;
-
-pub const PIXELS: usize = 13;
-
-pub const BELOW: usize = 14;
-
-pub const ABOVE: usize = 15;
-
-pub const DIFFERENT: usize = 16;
-
-pub const ENGINE: usize = 17;
-
-pub const BESIDE: usize = 18;
-
-// x more of number i.
-pub fn add(n: &mut [u64; 19], i: usize, x: u64)
-    requires { i < 19 }
-{
-    n[i] = std::num::wrapping_add_u64(n[i], x);
+#[derive(Clone, Copy, Debug, Default, PartialEq, Eq)]
+pub struct Counts {
+    pub refused: u64,
+    pub scans: u64,
+    pub empty: u64,
+    pub short: u64,
+    pub drops: u64,
+    pub behind: u64,
+    pub rows_in: u64,
+    pub dead: u64,
+    pub waiting: u64,
+    pub done: u64,
+    pub answers_refused: u64,
+    pub rows_out: u64,
+    pub wrong: u64,
+    pub pixels: u64,
+    pub below: u64,
+    pub above: u64,
+    pub different: u64,
+    pub engine: u64,
+    pub beside: u64,
 }
 
-// One more of number i, if so.
-pub fn count(n: &mut [u64; 19], i: usize, so: bool)
-    requires { i < 19 }
-{
-    if so {
-        add(n, i, 1);
+/// One more, if so.
+pub fn count(n: &mut u64, so: bool) {
+    *n = n.wrapping_add(u64::from(so));
+}
+
+/// A pixel into a checksum.
+fn mix(sum: &mut u64, pixel: i64) {
+    let raised = pixel.wrapping_add(2147483648).cast_unsigned();
+    *sum = next(*sum ^ raised ^ 88172645463325252);
+}
+
+impl Counts {
+    /// A scan of `height` rows, with this delay.
+    pub fn scan(&mut self, height: usize, delay: usize) {
+        count(&mut self.scans, true);
+        self.rows_in = self.rows_in.wrapping_add(height as u64);
+        count(&mut self.empty, height == 0);
+        count(&mut self.short, height < delay);
+    }
+
+    /// The dead elements among samples.
+    pub fn dead(&mut self, samples: &[u16]) {
+        for &x in samples {
+            count(&mut self.dead, x == 65535);
+        }
+    }
+
+    /// An answer, and the one that was due.
+    pub fn answer(&mut self, said: Said, due: Said) {
+        match said {
+            Said::Waiting => count(&mut self.waiting, true),
+            Said::Done => count(&mut self.done, true),
+            Said::Refused => count(&mut self.answers_refused, true),
+            Said::Row(_) => count(&mut self.rows_out, true),
+        }
+        count(&mut self.wrong, said != due);
+    }
+
+    /// A pixel of the engine, and that of the filter beside it.
+    pub fn pixel(&mut self, engine: i64, beside: i64) {
+        count(&mut self.pixels, true);
+        mix(&mut self.engine, engine);
+        mix(&mut self.beside, beside);
+        count(&mut self.below, beside < 0);
+        count(&mut self.above, beside > 0);
+        count(&mut self.different, engine != beside);
     }
 }
 
-// A pixel into the checksum i.
-fn mix(n: &mut [u64; 19], i: usize, x: u64)
-    requires { i < 19 }
-{
-    n[i] = next(n[i] ^ x ^ 88172645463325252);
-}
-
-// A scan of H rows, with this delay.
-pub fn scan(n: &mut [u64; 19], height: usize, delay: usize) {
-    add(n, SCANS, 1);
-    add(n, ROWS_IN, height as u64);
-    count(n, EMPTY, height == 0);
-    count(n, SHORT, height < delay);
-}
-
-// A pixel of each filter, both plus 2^31.
-pub fn pixel(n: &mut [u64; 19], engine: u64, beside: u64) {
-    mix(n, ENGINE, engine);
-    mix(n, BESIDE, beside);
-    count(n, BELOW, beside < 2147483648);
-    count(n, ABOVE, 2147483648 < beside);
-    count(n, DIFFERENT, engine != beside);
-}
-
-// The name of number i, 36 bytes.
-fn name<W: Write>(output: &mut W, names: &[u8], i: usize)
-    requires { i < 19 }
-{
-    let at = 36 * i;
-    let end = at + 36;
-    if end <= names.len() {
-        let _ = output.write_all(&names[at..end]);
+impl fmt::Display for Counts {
+    fn fmt<W: fmt::Write>(&self, f: &mut fmt::Formatter<W>) -> fmt::Result {
+        writeln!(f, "tables refused .................... {}", self.refused)?;
+        writeln!(f, "scans ............................. {}", self.scans)?;
+        writeln!(f, "scans with no rows ................ {}", self.empty)?;
+        writeln!(f, "scans with fewer rows than D ...... {}", self.short)?;
+        writeln!(f, "scans with drops .................. {}", self.drops)?;
+        writeln!(f, "scans with a lead row below 0 ..... {}", self.behind)?;
+        writeln!(f, "rows in ........................... {}", self.rows_in)?;
+        writeln!(f, "dead elements ..................... {}", self.dead)?;
+        writeln!(f, "waiting ........................... {}", self.waiting)?;
+        writeln!(f, "done .............................. {}", self.done)?;
+        writeln!(
+            f,
+            "answers refused ................... {}",
+            self.answers_refused
+        )?;
+        writeln!(f, "rows out .......................... {}", self.rows_out)?;
+        writeln!(f, "wrong answers ..................... {}", self.wrong)?;
+        writeln!(f, "pixels ............................ {}", self.pixels)?;
+        writeln!(f, "pixels below 0 .................... {}", self.below)?;
+        writeln!(f, "pixels above 0 .................... {}", self.above)?;
+        writeln!(f, "different pixels .................. {}", self.different)?;
+        writeln!(f, "checksum of the engine ............ {}", self.engine)?;
+        writeln!(f, "checksum of the filter beside it .. {}", self.beside)
     }
-}
-
-fn number<W: Write>(output: &mut W, x: u64) {
-    let _ = write!(output, "{x}");
-    let _ = output.write_all(b"\n");
-}
-
-// The numbers, each with its name.
-fn lines<W: Write>(output: &mut W, names: &[u8], n: &[u64; 19]) {
-    let mut i = 0;
-    while i < 19 {
-        name(output, names, i);
-        number(output, n[i]);
-        i += 1;
-    }
-}
-
-pub fn put<W: Write>(output: &mut W, n: &[u64; 19]) {
-    lines(
-        output,
-        b"tables refused .................... scans ............................. scans with no rows ................ \
-        scans with fewer rows than D ...... scans with drops .................. scans with a lead row below 0 ..... \
-        rows in ........................... dead elements ..................... waiting ........................... \
-        done .............................. answers refused ................... rows out .......................... \
-        wrong answers ..................... pixels ............................ pixels below 0 .................... \
-        pixels above 0 .................... different pixels .................. checksum of the engine ............ \
-        checksum of the filter beside it .. ",
-        n,
-    );
 }

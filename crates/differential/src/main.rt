@@ -1,5 +1,5 @@
-// A filter written apart from the engine, run beside it on many scans, and a ranked filter in the same way: prints what was
-// counted and a checksum of the pixels of each.
+//! A filter written apart from the engine, run beside it on many scans, and a ranked filter in the same way: prints what was
+//! counted and a checksum of the pixels of each.
 #![tactic(auto)]
 
 ghost use Rattle.std.specs.Prelude.{◌≤◌};
@@ -7,34 +7,36 @@ ghost use Rattle.std.specs.Prelude.{◌≤◌};
 mod chance;
 mod counts;
 mod filter;
+mod given;
 mod ranks;
 mod runs;
 mod tables;
 
-use chance::{draw, less, mixed, next};
-use counts::{add, count};
-use layout::{Table, Verdict};
-use runs::Task;
+use chance::{draw, mixed, next};
+use counts::{Counts, count};
+use filter::Filter;
+use given::{Given, mended};
+use layout::Table;
+use ranks::Ranked;
 use std::io::Write;
-use table::Loaded;
 
-// How many tables are drawn, and how many ranked windows.
+/// How many tables are drawn, and how many ranked windows.
 const TABLES: u64 = 320;
 
 const RANKS: u64 = 120;
 
-// A sample below 2^b, any or the largest.
+/// A sample below 2^b, any or the largest.
 fn level(x: u64, bright: u64, b: u8) -> u16 {
     let s = ((x >> 20) | bright) % 65536;
     ((s >> (16 - b % 16)) % 65536) as u16
 }
 
-// A sample as the sensor sends it: 65,535 where this element failed, as `dead` of sixteen do.
+/// A sample as the sensor sends it: 65,535 where this element failed, as `dead` of sixteen do.
 fn sent(x: u64, dead: u64, sample: u16) -> u16 {
     if (x >> 3) % 16 < dead { 65535 } else { sample }
 }
 
-// How many elements of sixteen are dead: none for half of the seeds, else 1, 4, 9 or all.
+/// How many elements of sixteen are dead: none for half of the seeds, else 1, 4, 9 or all.
 fn dead_of(seed: u64) -> u64 {
     match draw(seed, 206, 7) {
         4 => 1,
@@ -45,128 +47,117 @@ fn dead_of(seed: u64) -> u64 {
     }
 }
 
-// Samples below 2^b from a seed, for a sixth of the seeds the largest, with dead elements among them.
+/// Samples below 2^b from a seed, for a sixth of the seeds the largest, with dead elements among them.
 fn samples(seed: u64, b: u8) -> [u16; 65536] {
-    let mut given = [0u16; 65536];
+    let mut samples = [0u16; 65536];
     let bright = draw(seed, 205, 5) / 5 * 65535;
     let dead = dead_of(seed);
     let mut x = seed;
-    let mut i = 0;
-    while i < 65536 {
+    for sample in &mut samples {
         x = next(x);
-        given[i] = sent(x, dead, level(x, bright, b));
-        i += 1;
+        *sample = sent(x, dead, level(x, bright, b));
     }
-    given
+    samples
 }
 
-// L, from 1 to 1,024, most often small.
+/// L, from 1 to 1,024, most often small.
 fn width_of(seed: u64) -> usize
-    ensures { result ≤ 1024 }
+    ensures { (1 ≤ result) × (result ≤ 1024) }
 {
     let x = draw(seed, 200, 2047) >> draw(seed, 201, 10);
-    (1024 - less(1023, x)) as usize
+    1 + x.min(1023) as usize
 }
 
-// H, from none to 40, most often few.
+/// H, from none to 40, most often few.
 fn height_of(seed: u64) -> usize
     ensures { result ≤ 64 }
 {
     draw(seed, 203, draw(seed, 202, 40)) as usize
 }
 
-// The first n bytes of a file, loaded.
-fn loaded(file: &[u8], n: usize) -> Loaded {
-    table::load(&file[..filter::least(n, file.len())])
-}
-
-fn table_of(seed: u64) -> Loaded {
-    let file = tables::file(seed);
-    loaded(&file, 9 + 9 * tables::count(seed) as usize)
-}
-
-// The scan of a table.
-fn task_of(t: Table, seed: u64) -> Task
-    ensures { (result.width ≤ 1024) × (result.height ≤ 64) × (result.delay ≤ 128) }
-{
-    Task {
-        table: t,
-        width: width_of(seed),
+/// A table with a scan of its own.
+fn filtered(n: &mut Counts, table: &Table, seed: u64) {
+    let samples = samples(seed, table.b);
+    let width = width_of(seed);
+    let given = Given {
+        sent: &samples,
+        mended: &mended(&samples, width),
+        width,
         height: height_of(seed),
-        delay: filter::delay(t),
+    };
+    let delay = filter::delay(table);
+    n.scan(given.height, delay);
+    count(&mut n.drops, filter::has_drops(table));
+    count(&mut n.behind, filter::first_behind(table));
+    n.dead(&samples[..width * given.height]);
+    let mut kept = [7u16; 32768];
+    let mut sums = [9u32; 16384];
+    let scan = scan::start(*table, width, &mut kept, &mut sums).scan;
+    let mut beside = Filter {
+        table,
+        scan,
+        samples: &mut kept,
+        sums: &mut sums,
+    };
+    runs::run(n, &mut beside, given, delay);
+}
+
+/// The table of a seed.
+fn one(n: &mut Counts, seed: u64) {
+    let file = tables::file(seed);
+    match table::load(&file[..9 + 9 * tables::count(seed)]) {
+        Ok(table) => filtered(n, &table, seed),
+        Err(_) => count(&mut n.refused, true),
     }
 }
 
-fn counted(n: &mut [u64; 19], k: Task) {
-    counts::scan(n, k.height, k.delay);
-    count(n, counts::DROPS, filter::has_drops(k.table));
-    count(n, counts::BEHIND, filter::first_behind(k.table));
-}
-
-// The dead elements of a scan.
-fn count_dead(n: &mut [u64; 19], given: &[u16; 65536], width: usize, height: usize)
-    requires { (width ≤ 1024) × (height ≤ 64) }
-{
-    let end = width * height;
-    let mut i = 0;
-    while i < end {
-        count(n, counts::DEAD, given[i] == 65535);
-        i += 1;
-    }
-}
-
-// A table with a scan of its own.
-fn scanned(n: &mut [u64; 19], t: Table, seed: u64) {
-    let k = task_of(t, seed);
-    counted(n, k);
-    let given = samples(seed, t.b);
-    count_dead(n, &given, k.width, k.height);
-    runs::run(n, k, &given);
-}
-
-// The table of a seed.
-fn one(n: &mut [u64; 19], seed: u64) {
-    let l = table_of(seed);
-    let v = l.verdict;
-    match v {
-        Verdict::Refused(_, _) => add(n, counts::REFUSED, 1),
-        Verdict::Accepted => scanned(n, l.table, seed),
-    }
-}
-
-fn all(n: &mut [u64; 19]) {
-    let mut i = 0;
-    while i < TABLES {
-        one(n, mixed(i ^ 88172645463325252));
-        i += 1;
-    }
-}
-
-// A ranked window with a scan of its own.
-fn ranked(n: &mut [u64; 19], seed: u64) {
-    let k = ranks::task(seed, width_of(seed), height_of(seed));
-    counts::scan(n, k.height, k.delay);
-    count(n, counts::BEHIND, ranks::behind(k.window));
-    let given = samples(seed, k.b);
-    count_dead(n, &given, k.width, k.height);
-    ranks::run(n, k, &given);
-}
-
-fn all_ranked(n: &mut [u64; 19]) {
-    let mut i = 0;
-    while i < RANKS {
-        ranked(n, mixed(i ^ 362436069362436069));
-        i += 1;
-    }
+/// A ranked window with a scan of its own.
+fn ranked(n: &mut Counts, seed: u64) {
+    let b = ranks::bits(seed);
+    let window = ranks::window(seed);
+    let samples = samples(seed, b);
+    let width = width_of(seed);
+    let given = Given {
+        sent: &samples,
+        mended: &mended(&samples, width),
+        width,
+        height: height_of(seed),
+    };
+    let delay = ranks::delay(window);
+    n.scan(given.height, delay);
+    count(&mut n.behind, window.leadrow < 0);
+    n.dead(&samples[..width * given.height]);
+    let mut kept = [7u16; 32768];
+    let mut counts = [9u16; 262144];
+    let mut windows = [5u16; 256];
+    let scan = rank::start(
+        b,
+        window,
+        ranks::rank(seed, window),
+        width,
+        &mut kept,
+        &mut counts,
+        &mut windows,
+    )
+    .scan;
+    let mut beside = Ranked {
+        scan,
+        samples: &mut kept,
+        counts: &mut counts,
+        windows: &mut windows,
+    };
+    runs::run(n, &mut beside, given, delay);
 }
 
 fn main(rt: HostRuntime) {
     let mut output = rt.stdout();
-    let mut n = [0u64; 19];
-    all(&mut n);
-    counts::put(&mut output, &n);
-    let mut m = [0u64; 19];
-    all_ranked(&mut m);
-    let _ = output.write_all(b"ranked windows\n");
-    counts::put(&mut output, &m);
+    let mut filters = Counts::default();
+    for i in 0..TABLES {
+        one(&mut filters, mixed(i ^ 88172645463325252));
+    }
+    let mut ranks = Counts::default();
+    for i in 0..RANKS {
+        ranked(&mut ranks, mixed(i ^ 362436069362436069));
+    }
+    let _ = write!(output, "{filters}ranked windows\n{ranks}");
 }

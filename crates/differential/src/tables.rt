@@ -1,23 +1,21 @@
-// Table files, drawn from a seed. A sixteenth of them is at the limits.
-ghost use Rattle.std.specs.Prelude.{◌<◌, ◌≤◌};
+//! Table files, drawn from a seed. A sixteenth of them is at the limits.
+ghost use Rattle.std.specs.Prelude.{◌≤◌, ◌<◌};
 
 use crate::chance::{draw, pick};
 
-// Byte `at` of a file.
-fn set(file: &mut [u8; 153], at: usize, x: u64)
-    requires { at < 153 }
-{
-    file[at] = (x % 256) as u8;
+/// The low byte of a number.
+fn byte(x: u64) -> u8 {
+    (x % 256) as u8
 }
 
-// The rectangles, 1 to 16.
-pub fn count(seed: u64) -> u64
+/// The rectangles, 1 to 16.
+pub fn count(seed: u64) -> usize
     ensures { result ≤ 16 }
 {
-    1 + pick(seed, 12, 15, 15)
+    (1 + pick(seed, 12, 15, 15)) as usize
 }
 
-// A drop of at most `most`; none for half of the tables.
+/// A drop of at most `most`; none for half of the tables.
 fn drop_of(seed: u64, key: u64, most: u64) -> u64 {
     if draw(seed, 1, 1) == 0 {
         return 0;
@@ -25,31 +23,29 @@ fn drop_of(seed: u64, key: u64, most: u64) -> u64 {
     pick(seed, key, most, most)
 }
 
-// b and the drops.
-fn put_drops(file: &mut [u8; 153], seed: u64) {
+/// The field of the header: b and the drops, t and w.
+fn header(seed: u64) -> [u8; 9] {
     let x = pick(seed, 5, 11, 11);
-    set(file, 3, 1 + x);
-    set(file, 4, drop_of(seed, 6, x));
-    set(file, 5, drop_of(seed, 7, 8));
-    set(file, 6, drop_of(seed, 8, 8));
+    [
+        1,
+        0,
+        6,
+        byte(1 + x),
+        byte(drop_of(seed, 6, x)),
+        byte(drop_of(seed, 7, 8)),
+        byte(drop_of(seed, 8, 8)),
+        byte(pick(seed, 9, 20, 10)),
+        byte(24 + pick(seed, 10, 8, 8)),
+    ]
 }
 
-// t and w.
-fn put_pixel(file: &mut [u8; 153], seed: u64) {
-    set(file, 7, pick(seed, 9, 20, 10));
-    set(file, 8, 24 + pick(seed, 10, 8, 8));
-}
-
-// A lead, from -15 to 15, and two bytes on a trail below it, from -16 on.
-fn put_edges(file: &mut [u8; 153], seed: u64, key: u64, at: usize)
-    requires { at ≤ 150 }
-{
+/// A lead, from -15 to 15, and a trail below it, from -16 on, as bytes.
+fn edges(seed: u64, key: u64) -> (u8, u8) {
     let lead = pick(seed, key, 30, 30);
-    set(file, at, 241 + lead);
-    set(file, at + 2, 240 + pick(seed, key ^ 64, lead, 0));
+    (byte(241 + lead), byte(240 + pick(seed, key ^ 64, lead, 0)))
 }
 
-// A weight of 16 bits as a word: any, or from -9 to 9, or one of the two farthest.
+/// A weight of 16 bits as a word: any, or from -9 to 9, or one of the two farthest.
 fn weight(seed: u64, key: u64) -> u64 {
     if seed % 16 == 0 {
         return 32767 + draw(seed, key, 1);
@@ -60,34 +56,31 @@ fn weight(seed: u64, key: u64) -> u64 {
     draw(seed, key, 65535)
 }
 
-// Rectangle k, nine bytes from place `at` on.
-fn put_rectangle(file: &mut [u8; 153], seed: u64, k: u64, at: usize)
-    requires { at ≤ 144 }
-{
-    set(file, at, 2);
-    set(file, at + 2, 6);
-    put_edges(file, seed, k ^ 128, at + 3);
-    put_edges(file, seed, k ^ 256, at + 4);
-    let w = weight(seed, k ^ 512);
-    set(file, at + 7, w / 256);
-    set(file, at + 8, w);
+/// The field of rectangle k.
+fn rectangle(seed: u64, k: u64) -> [u8; 9] {
+    let (lead_row, trail_row) = edges(seed, k ^ 128);
+    let (lead_col, trail_col) = edges(seed, k ^ 256);
+    let weight = weight(seed, k ^ 512);
+    [
+        2,
+        0,
+        6,
+        lead_row,
+        lead_col,
+        trail_row,
+        trail_col,
+        byte(weight / 256),
+        byte(weight),
+    ]
 }
 
-fn put_rectangles(file: &mut [u8; 153], seed: u64) {
-    let mut k = 0;
-    while k < 16 {
-        put_rectangle(file, seed, k as u64, 9 + 9 * k);
-        k += 1;
-    }
-}
-
-// A table file with sixteen rectangles, of which the first are lent to the loader.
+/// A table file with sixteen rectangles, of which the first are lent to the loader.
 pub fn file(seed: u64) -> [u8; 153] {
     let mut file = [0u8; 153];
-    set(&mut file, 0, 1);
-    set(&mut file, 2, 6);
-    put_drops(&mut file, seed);
-    put_pixel(&mut file, seed);
-    put_rectangles(&mut file, seed);
+    file[..9].copy_from_slice(&header(seed));
+    for k in 0..16 {
+        let at = 9 + 9 * k;
+        file[at..at + 9].copy_from_slice(&rectangle(seed, k as u64));
+    }
     file
 }

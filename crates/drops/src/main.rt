@@ -1,25 +1,20 @@
-// drops TABLE [MOST [WIDTH]]: which choices of the three drops are worth having for a table file. Prints a line for each choice that is
-// listed, with MOST only those that keep every pixel within MOST of the full one, at rows of WIDTH samples, or of 1024. What cannot be
-// read, a refusal and a word that is no number are a line on standard error.
+//! drops TABLE [MOST [WIDTH]]: which choices of the three drops are worth having for a table file. Prints a line for each choice that is
+//! listed, with MOST only those that keep every pixel within MOST of the full one, at rows of WIDTH samples, or of 1024. What cannot be
+//! read, a refusal and a word that is no number are a line on standard error.
 #![tactic(auto)]
 
 ghost use Rattle.std.specs.Prelude.{◌≤◌, length};
 
-use choicetext::Word;
-use layout::{Table, Verdict};
+use choicetext::Listing;
+use faults::Fault;
+use layout::Question;
+use std::alloc::Global;
 use std::env::Env;
 use std::io::{Read, Write};
 use std::rt::Files;
-use streams::{fail, refuse};
+use streams::{fail, print, refuse};
 
-// A number of the command line; or that there is a fault, which was said.
-#[derive(Clone, Copy)]
-struct Setting {
-    failed: bool,
-    value: u64,
-}
-
-// Says that a word is no number.
+/// Says that a word is no number.
 fn no_number<E: Write>(errors: &mut E, what: &[u8], word: &[u8])
     requires { (length what.now ≤ 16) × (length word.now ≤ 4096) }
 {
@@ -28,60 +23,39 @@ fn no_number<E: Write>(errors: &mut E, what: &[u8], word: &[u8])
     let _ = errors.write_all(&line[..end]);
 }
 
-// The number that word i is, `other` where there is no such word.
+/// The number that word i is, `other` where there is no such word; none where it is no number, which is said.
 fn number_word<R: Env, E: Write>(
     rt: &R,
     errors: &mut E,
     i: usize,
     what: &[u8],
     other: u64,
-) -> Setting
+) -> Option<u64>
     requires { length what.now ≤ 16 }
 {
     if streams::count_words(rt) <= i {
-        return Setting {
-            failed: false,
-            value: other,
-        };
+        return Some(other);
     }
     let mut word = [0u8; 4096];
     match streams::word(rt, i, &mut word) {
         Err(why) => {
             fail(errors, what, &why);
-            Setting {
-                failed: true,
-                value: 0,
-            }
+            None
         }
         Ok(n) => {
-            let w = choicetext::number(&word[..n]);
-            match w {
-                Word::Number(value) => Setting {
-                    failed: false,
-                    value,
-                },
-                Word::Other => {
-                    no_number(errors, what, &word[..n]);
-                    Setting {
-                        failed: true,
-                        value: 0,
-                    }
-                }
+            let number = choicetext::number(&word[..n]);
+            if number.is_none() {
+                no_number(errors, what, &word[..n]);
             }
+            number
         }
     }
 }
 
-// Prints the choices of a table.
-fn print<O: Write, E: Write>(output: &mut O, errors: &mut E, t: Table, width: usize, most: u64) {
-    let mut page = [0u8; 165000];
-    let end = choicetext::list(t, width, most, &mut page);
-    streams::put(output, errors, &page[..end]);
-}
-
-// Prints the choices of the table file that the first word names, or says why not.
+/// Prints the choices of the table file that the first word names, or says why not.
 fn print_file<R: Files + Env, S: Read, O: Write, E: Write>(
     rt: &R,
+    alloc: Global,
     input: &mut S,
     output: &mut O,
     errors: &mut E,
@@ -94,48 +68,48 @@ fn print_file<R: Files + Env, S: Read, O: Write, E: Write>(
     if from.failed {
         return;
     }
-    let n = from.end;
-    let m = from.name;
-    let loaded = table::load(&bytes[..n]);
-    let v = loaded.verdict;
-    match v {
-        Verdict::Refused(number, place) => refuse(errors, &name[..m], place, number),
-        Verdict::Accepted => {
-            let t = loaded.table;
-            print(output, errors, t, width, most)
+    match table::load(&bytes[..from.end]) {
+        Err(refusal) => {
+            let fault = Fault {
+                place: refusal.place,
+                number: refusal.question.number(),
+            };
+            refuse(alloc, errors, &name[..from.name], fault);
+        }
+        Ok(table) => {
+            let listing = Listing { table, width, most };
+            print(alloc, output, errors, &listing);
         }
     }
 }
 
 fn main(rt: HostRuntime) {
     let mut errors = rt.stderr();
-    let count = streams::count_words(&rt);
-    if count < 2 {
+    if !(2..=4).contains(&streams::count_words(&rt)) {
         let _ = errors.write_all(b"usage: drops TABLE [MOST [WIDTH]]\n");
         return;
     }
-    if 4 < count {
-        let _ = errors.write_all(b"usage: drops TABLE [MOST [WIDTH]]\n");
+    let Some(most) = number_word(&rt, &mut errors, 2, b"MOST", choicetext::no_most()) else {
         return;
-    }
-    let most = number_word(&rt, &mut errors, 2, b"MOST", choicetext::no_most());
-    if most.failed {
+    };
+    let Some(width) = number_word(&rt, &mut errors, 3, b"WIDTH", 1024) else {
         return;
-    }
-    let width = number_word(&rt, &mut errors, 3, b"WIDTH", 1024);
-    if width.failed {
-        return;
-    }
-    if !rule::width_good(width.value as usize) {
-        refuse(&mut errors, b"drops", 0, 12);
+    };
+    if !rule::width_good(width as usize) {
+        let fault = Fault {
+            place: 0,
+            number: Question::Width.number(),
+        };
+        refuse(rt.alloc(), &mut errors, b"drops", fault);
         return;
     }
     print_file(
         &rt,
+        rt.alloc(),
         &mut rt.stdin(),
         &mut rt.stdout(),
         &mut errors,
-        width.value as usize,
-        most.value,
+        width as usize,
+        most,
     );
 }

@@ -1,12 +1,6 @@
 -- The pixels of complete values, of 32 or of 64 bits, are those of the rule; and which of them surely fit their words.
 -- Assumes nothing.
-use Prim.Native.Nat.{ℕ, ◌≤◌, ◌<◌}
-use native.Mathlib.Omega.{arith}
-use mathlib.Core.Path.{◌≡◌, refl, sym, ap, subst, ◌∙◌}
-use mathlib.Core.Bool.{Bool, true, false, ◌||◌}
-use mathlib.Core.List.{List}
-use lib.Dec.{T, ltb}
-use borrow.Author.Tests.{lt-ltb, le-ltb}
+use Rattle.std.proofs.Common.{ℕ, ◌≤◌, ◌<◌, arith, ◌≡◌, refl, sym, ap, subst, ◌∙◌, Bool, true, false, ◌||◌, T, ltb, lt-ltb, le-ltb}
 use Rattle.arith.specs.All.{all}
 use Rattle.arith.specs.Twos.{fits_signed}
 use Rattle.arith.proofs.Alls.{all_of}
@@ -18,17 +12,8 @@ use Rattle.limits.proofs.Granted.{granted, granted_value}
 use Rattle.limits.proofs.Values.{value_by}
 use Rattle.rule.proofs.Fitting.{areas_fit_lem}
 use Rattle.arrival.specs.Arrivals.{Arrival, sum_good, scaled_at, pixel_at, due_good}
-use Rattle.engine.specs.Rows.{pixel_of, narrow_table, sure_table, Accumulated}
-use Rattle.engine.proofs.Biased.{wide_pixel}
-use Rattle.engine.proofs.Shares.{narrow_pixel}
+use Rattle.engine.specs.Rows.{sure_table}
 use Rattle.arrival.proofs.Values.{scaled_most}
-
-pub due_pixel :
-    (v : Arrival) → acceptable v.table ≡ true → ((k : ℕ) → k < v.table.count → T (all v.width (sum_good v k)))
-    → (narrow : Bool) → (narrow ≡ true → narrow_table v.table ≡ true) → {acc wide : List ℕ} → Accumulated v v.table.count narrow acc wide
-    → (c : ℕ) → c < v.width → pixel_of narrow v.table.q3 v.table.t acc wide c ≡ pixel_at v c
-due_pixel v a good true n w c h = narrow_pixel v a (n refl) good (w.words refl) c h
-due_pixel v a good false n w c h = wide_pixel v (w.longs refl) c h
 
 -- where the extremes by the areas fit the pixel word, so does every pixel
 pub sure_pixel :

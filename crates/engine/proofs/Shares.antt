@@ -1,15 +1,8 @@
 -- Values of 32 bits: the shares of all rectangles, modulo 2^32, are the value, and its pixel is that of the rule.
 -- Assumes nothing.
-use Prim.Native.Nat.{ℕ, suc, ◌+◌, ◌*◌, ◌/◌, ◌%◌, ◌^◌, ◌≤◌, ◌<◌}
-use native.Mathlib.Nat.{mod-add-mod, div-one}
-use native.Mathlib.Omega.{arith}
-use native.Mathlib.Numerals.{add-one}
-use mathlib.Core.Path.{◌≡◌, refl, sym, ap, subst, ◌∙◌}
-use mathlib.Core.Bool.{Bool, true, false, cond}
-use mathlib.Core.List.{List, ◌++◌}
-use lib.Dec.{T, eqb, eqb→eq}
-use lib.IntN.{ℤ, pos, negsuc}
-use lib.ListN.{length, get_or, drop, replicate, length-replicate, get_or-replicate}
+use Rattle.std.proofs.Common.{ℕ, suc, ◌+◌, ◌*◌, ◌/◌, ◌%◌, ◌^◌, ◌<◌, div-one, arith, add-one, ◌≡◌, refl, sym, ap, subst, ◌∙◌, Bool, true, false, cond, List, T, eqb, eqb→eq, ℤ, pos, negsuc, length, get_or, replicate}
+use Rattle.std.proofs.Math.Nat.{mod-add-mod}
+use Rattle.std.proofs.Math.ListN.{length-replicate, get_or-replicate}
 use Rattle.arith.specs.All.{all}
 use Rattle.arith.specs.Floor.{floor_div}
 use Rattle.arith.specs.Part.{pos_part, neg_part}
@@ -17,7 +10,7 @@ use Rattle.arith.specs.Sum.{sum}
 use Rattle.arith.specs.Tab.{tab}
 use Rattle.arith.specs.Twos.{fits_signed}
 use Rattle.arith.proofs.Ints.{diff_parts, diff_scale, diff_sum}
-use Rattle.arith.proofs.Passes.{pass_done, pass_length}
+use Rattle.arith.proofs.Tabs.{length-tab, get_or-tab}
 use Rattle.arith.proofs.Residues.{rest_products, signed_rest}
 use Rattle.arith.proofs.Sums.{sum-add, sum_cong, sum_scale, sum-suc}
 use Rattle.layout.specs.declared.Table.{Table}
@@ -36,22 +29,22 @@ use Rattle.arrival.proofs.Windows.{summed}
 
 -- ---- the accumulator, rectangle by rectangle
 
-pub weighed_none : (v : Arrival) (n : ℕ) → v.width + 16 ≤ n → Weighed v 0 (replicate n 0)
+pub weighed_none : (v : Arrival) → Weighed v 0 (replicate (v.width + 16) 0)
 unfolding shares sum
-weighed_none v n h =
-    record { long = rw (length-replicate {A = ℕ} n 0) h; value = λ i l. get_or-replicate n i 0 0 (omega arith) }
+weighed_none v =
+    record { long = length-replicate {A = ℕ} (v.width + 16) 0; value = λ i l. get_or-replicate (v.width + 16) i 0 0 l }
 
 pub weighed_next :
     (v : Arrival) (k : ℕ) {acc acc' : List ℕ} → Weighed v k acc
-    → acc' ≡ tab (v.width + 16) (with_share (rect v.table k) v.table.q3 (scale v.table) (line_of v k) acc) ++ drop (v.width + 16) acc
+    → acc' ≡ tab (v.width + 16) (with_share (rect v.table k) v.table.q3 (scale v.table) (line_of v k) acc)
     → Weighed v (k + 1) acc'
 unfolding shares
 weighed_next v k {acc} {acc'} w is =
     record {
-      long = rw (ap length is ∙ pass_length n next acc w.long) w.long;
+      long = ap length is ∙ length-tab n next;
       value =
           λ i h.
-          ap (λ xs. get_or xs i 0) is ∙ pass_done n next acc i 0 h
+          ap (λ xs. get_or xs i 0) is ∙ get_or-tab n next i 0 h
           ∙ ap (λ a. (a + part i) % 4294967296) (w.value i h)
           ∙ mod-add-mod (shares v k i) 4294967296 (part i)
           ∙ ap (λ a. a % 4294967296) (sym (sum-suc k (λ j. term j i)) ∙ ap (λ m. sum m (λ j. term j i)) (sym (add-one k)));
@@ -85,10 +78,10 @@ module _ (v : Arrival) (a : acceptable v.table ≡ true) where
   weighted c = sum v.table.count (λ k. factor_of (weight k) q * (window_at v k c / 2 ^ v.table.q3))
 
   -- the accumulator's place 16 + c, or its running sum there, comes to it
-  pub accumulated : {acc : List ℕ} → Weighed v v.table.count acc → (c : ℕ) → c < v.width
+  pub accumulated : (acc : List ℕ) → ((i : ℕ) → i < v.width + 16 → get_or acc i 0 ≡ shares v v.table.count i % 4294967296) → (c : ℕ) → c < v.width
       → cond (eqb v.table.q3 0) (running acc (16 + c)) (get_or acc (16 + c) 0) ≡ weighted c % 4294967296
   unfolding shares share_over
-  accumulated {acc} w c h = go (eqb v.table.q3 0) (eqb→eq v.table.q3 0) refl
+  accumulated acc w c h = go (eqb v.table.q3 0) (eqb→eq v.table.q3 0) refl
     where
       t : Table
       t = v.table
@@ -103,7 +96,7 @@ module _ (v : Arrival) (a : acceptable v.table ≡ true) where
           ∙ summed t.count (λ k. factor_of (weight k) q) (line_of v) (λ k. place (rect t k).trailcol) (λ k. cols_of (rect t k))
           (λ k l. line_dark v k) (λ k l. within (rect t k) ((granted t a).bounds k l).col) (17 + c) (λ i. get_or acc i 0)
           (λ i l.
-          w.value i (omega arith)
+          w i (omega arith)
           ∙ ap (λ x. x % 4294967296)
           (sum_cong t.count (λ k m. rw e (ap (λ p. factor_of (weight k) q * (line_of v k (p + i) + 4294967295 * line_of v k (place (rect t k).trailcol + i))) (sym (reach (rect t k) ((granted t a).bounds k m).col))))))
           ∙ ap (λ x. x % 4294967296)
@@ -112,7 +105,7 @@ module _ (v : Arrival) (a : acceptable v.table ≡ true) where
           ap (λ x. factor_of (weight k) q * x)
           (window_at_lem v k ((granted t a).bounds k l).col c ∙ sym (ap (λ n. window_at v k c / 2 ^ n) (z tt) ∙ div-one (window_at v k c)))))
       go false z e =
-          w.value (16 + c) (omega arith)
+          w (16 + c) (omega arith)
           ∙ ap (λ x. x % 4294967296)
           (sum_cong t.count (λ k l. rw (e, further) (ap (λ x. factor_of (weight k) q * (x / 2 ^ t.q3)) (window_at_lem v k ((granted t a).bounds k l).col c))))
 
@@ -148,10 +141,10 @@ module _ (v : Arrival) (a : acceptable v.table ≡ true) where
 
   -- so the pixel is that of the rule
   pub narrow_pixel : narrow_table v.table ≡ true → ((k : ℕ) → k < v.table.count → T (all v.width (sum_good v k)))
-      → {acc : List ℕ} → Weighed v v.table.count acc → (c : ℕ) → c < v.width
+      → (acc : List ℕ) → ((i : ℕ) → i < v.width + 16 → get_or acc i 0 ≡ shares v v.table.count i % 4294967296) → (c : ℕ) → c < v.width
       → rounded_word (cond (eqb v.table.q3 0) (running acc (16 + c)) (get_or acc (16 + c) 0)) v.table.t ≡ pixel_at v c
   unfolding pixel_at
-  narrow_pixel e good w c h =
+  narrow_pixel e good acc w c h =
       let s = diff_sum v.table.count (λ k l. diff_scale (scaled_at v k c) (diff_parts (weight k))) in
-      ap (λ x. rounded_word x v.table.t) (accumulated w c h ∙ weighted_is c)
+      ap (λ x. rounded_word x v.table.t) (accumulated acc w c h ∙ weighted_is c)
       ∙ ap (λ z. floor_div z v.table.t) (signed_rest (value_at v c) s (value_fits e good c))

@@ -1,13 +1,6 @@
 -- The theorem on the engine's numbers.
 -- Assumes nothing.
-use Prim.Native.Nat.{ℕ, ◌-◌, ◌*◌, ◌/◌, ◌^◌, ◌≤◌, ◌<◌}
-use native.Mathlib.Nat.{le_refl, le_trans, mul-le-mul, div-le_self}
-use native.Mathlib.Omega.{arith}
-use mathlib.Core.Path.{◌≡◌, sym, subst, ◌∙◌}
-use mathlib.Core.Bool.{true}
-use lib.Dec.{T}
-use lib.IntN.{pos}
-use lib.Pow.{pow_mono}
+use Rattle.std.proofs.Common.{ℕ, ◌-◌, ◌*◌, ◌/◌, ◌^◌, ◌≤◌, ◌<◌, le_refl, le_trans, mul-le-mul, div-le_self, arith, ◌≡◌, sym, subst, ◌∙◌, true, T, pos, pow_mono}
 use Rattle.arith.specs.All.{all}
 use Rattle.arith.specs.Part.{pos_part, neg_part}
 use Rattle.arith.proofs.Alls.{all_at}

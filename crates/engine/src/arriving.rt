@@ -1,147 +1,103 @@
-// The arrival of a row: question 19, and what it leaves.
-ghost use Rattle.std.specs.Prelude.{◌≡◌, true, ◌≤◌, length};
-ghost use Rattle.arrival.specs.Arrivals.{arriving, leaves, arrive_of, Fits};
+//! The arrival of a row: question 19, and what it leaves.
+ghost use Rattle.std.specs.Prelude.{◌≡◌, true, ◌+◌, ◌*◌, ◌≤◌, length};
+ghost use Rattle.layout.specs.Answers.{said};
 ghost use Rattle.limits.specs.Limits.{acceptable};
-ghost use Rattle.engine.specs.Rows.{narrow_table, sure_table, RowFits, SureFits, take_of};
+ghost use Rattle.arrival.specs.Arrivals.{arriving, leaves, arrive_of, Fits};
+ghost use Rattle.arrival.specs.Arriving.{arrival};
+ghost use Rattle.engine.specs.Rows.{narrow_table, sure_table, take_of};
 
 use crate::rows::take;
 use arith::power;
+use arrival::Arriving;
 use grid::area_sums;
-use layout::{Table, Verdict, delay};
+use layout::{Refusal, Table};
 use limits::extremes_fit;
 use passes::BIAS;
 use ring::keep;
 
-// What is known of a table's values on any stores whose sums pass question 19: whether every value has 32 bits, and whether every pixel
-// surely fits its word.
+/// What is known of a table's values on any stores whose sums pass question 19: whether every value has 32 bits, and whether every pixel
+/// surely fits its word.
 #[derive(Clone, Copy)]
 struct Spans {
     narrow: bool,
     sure: bool,
 }
 
-// Both by the extremes over the areas of its rectangles, which its window sums keep to.
-fn span(t: Table) -> Spans
-    requires { acceptable t ≡ true }
-    ensures { (result.narrow ≡ narrow_table t) × (result.sure ≡ sure_table t) }
-{
-    let e = area_sums(t);
-    let top = power(t.b) - 1;
-    Spans {
-        narrow: extremes_fit(top * e.high, top * e.low, 0, 32),
-        sure: extremes_fit(top * e.high, top * e.low, t.t, t.w),
-    }
-}
-
-// An arrival with values of 32 bits and at most 256 columns.
-fn take_short<'a>(
-    t: Table,
-    sure: bool,
-    width: usize,
-    arrival: usize,
-    delay: usize,
-    row: &'a [u16],
-    samples: &'a [u16],
-    sums: &mut [u32],
-    out: &mut [i32],
-) -> Verdict
-    requires sure_fits { SureFits (arriving t width arrival row.now samples.now sums.old) delay sure (length out.old) }
-    requires t_value { (narrow_table t ≡ true) × (width ≤ 256) }
-    ensures { leaves result samples.now sums.new out.new
-        ≡ take_of (arriving t width arrival row.now samples.now sums.old) out.old }
-{
-    let mut acc = [0u32; 272];
-    let mut wide = [0u64; 1];
-    let mut line = [0u32; 304];
-    let zeros = [0u16; 256];
-    take(
-        &mut acc, &mut wide, &mut line, &zeros, true, sure, t, width, arrival, delay, samples,
-        sums, row, out,
-    )
-}
-
-// An arrival with values of 32 bits.
-fn take_long<'a>(
-    t: Table,
-    sure: bool,
-    width: usize,
-    arrival: usize,
-    delay: usize,
-    row: &'a [u16],
-    samples: &'a [u16],
-    sums: &mut [u32],
-    out: &mut [i32],
-) -> Verdict
-    requires sure_fits { SureFits (arriving t width arrival row.now samples.now sums.old) delay sure (length out.old) }
-    requires t_value { narrow_table t ≡ true }
-    ensures { leaves result samples.now sums.new out.new
-        ≡ take_of (arriving t width arrival row.now samples.now sums.old) out.old }
-{
-    let mut acc = [0u32; 1040];
-    let mut wide = [0u64; 1];
-    let mut line = [0u32; 1072];
-    let zeros = [0u16; 1024];
-    take(
-        &mut acc, &mut wide, &mut line, &zeros, true, sure, t, width, arrival, delay, samples,
-        sums, row, out,
-    )
-}
-
-// An arrival with values of 64 bits.
-fn take_wide<'a>(
-    t: Table,
-    sure: bool,
-    width: usize,
-    arrival: usize,
-    delay: usize,
-    row: &'a [u16],
-    samples: &'a [u16],
-    sums: &mut [u32],
-    out: &mut [i32],
-) -> Verdict
-    requires { SureFits (arriving t width arrival row.now samples.now sums.old) delay sure (length out.old) }
-    ensures { leaves result samples.now sums.new out.new
-        ≡ take_of (arriving t width arrival row.now samples.now sums.old) out.old }
-{
-    let mut acc = [0u32; 1];
-    let mut wide = [BIAS; 1024];
-    let mut line = [0u32; 1072];
-    let zeros = [0u16; 1024];
-    take(
-        &mut acc, &mut wide, &mut line, &zeros, false, sure, t, width, arrival, delay, samples,
-        sums, row, out,
-    )
-}
-
-// An arrival with the lines and the values that its width and its table need.
-fn take_in<'a>(
-    t: Table,
-    width: usize,
-    arrival: usize,
-    delay: usize,
-    row: &'a [u16],
-    samples: &'a [u16],
-    sums: &mut [u32],
-    out: &mut [i32],
-) -> Verdict
-    requires { RowFits (arriving t width arrival row.now samples.now sums.old) delay (length out.old) }
-    ensures { leaves result samples.now sums.new out.new
-        ≡ take_of (arriving t width arrival row.now samples.now sums.old) out.old }
-{
-    let s = span(t);
-    if s.narrow {
-        if width <= 256 {
-            take_short(t, s.sure, width, arrival, delay, row, samples, sums, out)
-        } else {
-            take_long(t, s.sure, width, arrival, delay, row, samples, sums, out)
+impl Spans {
+    /// Both by the extremes over the areas of its rectangles, which its window sums keep to.
+    fn of(t: &Table) -> Spans
+        requires { acceptable t.now ≡ true }
+        ensures narrow { result.narrow ≡ narrow_table t.now }
+        ensures sure { result.sure ≡ sure_table t.now }
+    {
+        let e = area_sums(t);
+        let top = power(t.b) - 1;
+        Spans {
+            narrow: extremes_fit(top * e.high, top * e.low, 0, 32),
+            sure: extremes_fit(top * e.high, top * e.low, t.t, t.w),
         }
-    } else {
-        take_wide(t, s.sure, width, arrival, delay, row, samples, sums, out)
     }
 }
 
-// A row, or a closing row of zeros, arrives: question 19. Accepted, the stores hold it, and the first L places of the
-// output the filtered row that is due, if one is; refused, nothing is changed.
+/// An arrival with values of 32 bits, and local lines of sizes that are enough for it.
+fn take_words<const VALUES: usize, const LINE: usize>(
+    arriving: &Arriving,
+    sure: bool,
+    sums: &mut [u32],
+    out: &mut [i32],
+) -> Result<(), Refusal>
+    requires narrow { narrow_table arriving.now.table.now ≡ true }
+    requires surely { sure ≡ true → sure_table arriving.now.table.now ≡ true }
+    requires values_long { (length arriving.now.row.now + 16 ≤ VALUES) × (VALUES ≤ 1040) }
+    requires line_long { (length arriving.now.row.now + 48 ≤ LINE) × (LINE ≤ 1072) }
+    requires sums_long { arriving.now.table.now.count * length arriving.now.row.now ≤ length sums.old }
+    requires lent { length arriving.now.row.now ≤ length out.old }
+    ensures { leaves (said result) arriving.now.samples.now sums.new out.new ≡ take_of (arrival arriving.now sums.old) out.old }
+{
+    let mut values = [0u32; VALUES];
+    let mut line = [0u32; LINE];
+    let acc = &mut values[..arriving.row.len() + 16];
+    take(arriving, sure, acc, &mut line, sums, out)
+}
+
+// Not one with `take_words` (P): an array of a type parameter cannot be lent as a slice, since no clause can bound its size in memory.
+/// An arrival with values of 64 bits.
+fn take_longs(
+    arriving: &Arriving,
+    sure: bool,
+    sums: &mut [u32],
+    out: &mut [i32],
+) -> Result<(), Refusal>
+    requires surely { sure ≡ true → sure_table arriving.now.table.now ≡ true }
+    requires sums_long { arriving.now.table.now.count * length arriving.now.row.now ≤ length sums.old }
+    requires lent { length arriving.now.row.now ≤ length out.old }
+    ensures { leaves (said result) arriving.now.samples.now sums.new out.new ≡ take_of (arrival arriving.now sums.old) out.old }
+{
+    let mut values = [BIAS; 1024];
+    let mut line = [0u32; 1072];
+    let acc = &mut values[..arriving.row.len()];
+    take(arriving, sure, acc, &mut line, sums, out)
+}
+
+/// An arrival with the values and the lines that its table and its width need.
+fn take_in(arriving: &Arriving, sums: &mut [u32], out: &mut [i32]) -> Result<(), Refusal>
+    requires sums_long { arriving.now.table.now.count * length arriving.now.row.now ≤ length sums.old }
+    requires lent { length arriving.now.row.now ≤ length out.old }
+    ensures { leaves (said result) arriving.now.samples.now sums.new out.new ≡ take_of (arrival arriving.now sums.old) out.old }
+{
+    let spans = Spans::of(arriving.table);
+    if !spans.narrow {
+        take_longs(arriving, spans.sure, sums, out)
+    } else if arriving.row.len() <= 256 {
+        take_words::<272, 304>(arriving, spans.sure, sums, out)
+    } else {
+        take_words::<1040, 1072>(arriving, spans.sure, sums, out)
+    }
+}
+
+// The width beside the row (N): `arriving t width` in the callers' contracts is this call's own arguments.
+/// A row, or a closing row of zeros, arrives: question 19. Accepted, the stores hold it, and the first L places of the
+/// output the filtered row that is due, if one is; refused, nothing is changed.
 pub fn arrive(
     t: Table,
     width: usize,
@@ -150,18 +106,19 @@ pub fn arrive(
     samples: &mut [u16],
     sums: &mut [u32],
     out: &mut [i32],
-) -> Verdict
+) -> Result<(), Refusal>
     requires { Fits (arriving t width number row.now samples.old sums.old) (length out.old) }
-    ensures { leaves result samples.new sums.new out.new
+    ensures { leaves (said result) samples.new sums.new out.new
         ≡ arrive_of (arriving t width number row.now samples.old sums.old) out.old }
 {
-    let arrival = number as usize;
-    let d = delay(t) as usize;
-    let taken = take_in(t, width, arrival, d, row, samples, sums, out);
-    match taken {
-        Verdict::Refused(number, place) => return Verdict::Refused(number, place),
-        Verdict::Accepted => {}
-    }
-    keep(samples, row, width, arrival);
-    Verdict::Accepted
+    let arriving = Arriving {
+        table: &t,
+        number: number as usize,
+        delay: t.delay() as usize,
+        row,
+        samples,
+    };
+    take_in(&arriving, sums, out)?;
+    keep(samples, row, number as usize);
+    Ok(())
 }

@@ -1,185 +1,93 @@
-// A row over all rectangles: the values, the pixels that are due, and where question 19 is answered no the sums rolled back.
-ghost use Rattle.std.specs.Prelude.{◌≡◌, ◌++◌, ◌+◌, ◌*◌, ◌≤◌, length, get_or, drop};
+//! A row over all rectangles: the values, the pixels that are due, and where question 19 is answered no the sums rolled back.
+ghost use Rattle.std.specs.Prelude.{◌≡◌, ◌++◌, ◌+◌, ◌*◌, ◌≤◌, true, Err, IfErr, OnOk, length, drop};
 ghost use Rattle.arith.specs.Tab.{grid};
-ghost use Rattle.passes.specs.Passes.{rounded, rounded_word};
-ghost use Rattle.arrival.specs.Arrivals.{arriving, leaves};
-ghost use Rattle.arrival.specs.Rectangles.{rolled_back_sum, StepFits, ZeroPadded};
-ghost use Rattle.engine.specs.Rows.{value_word, pixel_of, Accumulated, AllUpdated};
-ghost use Rattle.engine.specs.Rows.{WordsDue, LongsDue, PixelsDue, Written, TakeFits, take_of};
+ghost use Rattle.layout.specs.Answers.{said, refused};
+ghost use Rattle.arrival.specs.Arrivals.{leaves};
+ghost use Rattle.arrival.specs.Arriving.{arrival};
+ghost use Rattle.arrival.specs.Rectangles.{rolled_back_sum, ZeroPadded};
+ghost use Rattle.engine.specs.Rows.{Stopped, Complete, sure_table, take_of};
 
-use arrival::{rectangle, roll_back_rectangle};
-use layout::{Table, Verdict};
-use passes::{fit_narrow, fit_wide, running_sums, write_narrow, write_wide};
+use crate::values::Value;
+use arrival::Arriving;
+use layout::{Question, Refusal};
 
-// The first rectangle that fails question 19, or their number. The sums are updated up to that rectangle, its own included;
-// where none fails, all are updated, and the values are complete.
-fn values<'a>(
-    acc: &mut [u32],
-    wide: &mut [u64],
+/// Updates the column sums rectangle by rectangle and adds their parts to the values, up to the first rectangle that fails question 19,
+/// its own sums included.
+fn values<V: Value>(
+    arriving: &Arriving,
+    acc: &mut [V],
     line: &mut [u32],
-    zeros: &'a [u16],
-    narrow: bool,
-    t: Table,
-    width: usize,
-    arrival: usize,
-    delay: usize,
-    samples: &'a [u16],
     sums: &mut [u32],
-    row: &'a [u16],
-) -> usize
-    requires step_fits { StepFits (arriving t width arrival row.now samples.now sums.old) delay zeros.now }
-    requires accumulated { Accumulated (arriving t width arrival row.now samples.now sums.old) 0 narrow acc.old wide.old × ZeroPadded width line.old }
-    ensures { AllUpdated (arriving t width arrival row.now samples.now sums.old) result narrow
-        acc.new wide.new sums.new }
+) -> Result<(), usize>
+    requires sums_long { arriving.now.table.now.count * length arriving.now.row.now ≤ length sums.old }
+    requires held { V.held (arrival arriving.now sums.old) 0 acc.old }
+    requires padded { ZeroPadded (length arriving.now.row.now) line.old }
+    ensures stopped { IfErr result (λ k. Stopped (arrival arriving.now sums.old) k sums.new) }
+    ensures complete { OnOk result (Complete (arrival arriving.now sums.old) sums.new) }
+    ensures held { OnOk result (V.held (arrival arriving.now sums.old) arriving.now.table.now.count acc.new) }
 {
-    let count = t.count;
-    let mut k = 0;
-    while k < count {
-        if !rectangle(
-            acc, wide, line, zeros, narrow, t, k, width, arrival, delay, samples, sums, row,
-        ) {
-            return k;
+    for k in 0..arriving.table.count {
+        if !arriving.update(k, line, sums) {
+            return Err(k);
         }
-        k += 1;
+        V::add(arriving, k, acc, line);
     }
-    k
+    Ok(())
 }
 
-// Rolls back the sums of the first n rectangles.
-fn roll_back_first<'a>(
-    sums: &mut [u32],
-    zeros: &'a [u16],
-    t: Table,
-    n: usize,
-    width: usize,
-    arrival: usize,
-    delay: usize,
-    samples: &'a [u16],
-    row: &'a [u16],
-)
-    requires { StepFits (arriving t width arrival row.now samples.now sums.old) delay zeros.now × (n ≤ t.count) }
-    ensures { sums.new
-        ≡ grid n width (rolled_back_sum (arriving t width arrival row.now samples.now sums.old))
-        ++ drop (n * width) sums.old }
+/// Rolls back the sums of the first n rectangles.
+fn roll_back_first(arriving: &Arriving, n: usize, sums: &mut [u32])
+    requires few { n ≤ arriving.now.table.now.count }
+    requires sums_long { arriving.now.table.now.count * length arriving.now.row.now ≤ length sums.old }
+    ensures { sums.new ≡ grid n (length arriving.now.row.now) (rolled_back_sum (arrival arriving.now sums.old))
+        ++ drop (n * length arriving.now.row.now) sums.old }
 {
-    let mut k = 0;
-    while k < n {
-        roll_back_rectangle(sums, zeros, t, k, width, arrival, delay, samples, row);
-        k += 1;
+    for k in 0..n {
+        arriving.roll_back(k, sums);
     }
 }
 
-// The pixels of values of 32 bits, or where q3 is 0 of their running sums, into the first places of the output where each fits its word.
-// Whether they do is asked where it is not sure.
-fn write_words(
-    out: &mut [i32],
-    acc: &mut [u32],
+// `sums_long` and `lent` in these clauses (N): a struct of the row and the stores that are lent to be changed would hold the loans.
+/// All of an arrival but the keeping of its row: question 19, and what it leaves. A table whose pixels surely fit their words is not asked
+/// for them.
+pub fn take<V: Value>(
+    arriving: &Arriving,
     sure: bool,
-    width: usize,
-    q3: u8,
-    shift: u8,
-    word: u8,
-) -> bool
-    requires { WordsDue width shift word (length out.old) (length acc.old) }
-    ensures { Written sure width word (λ c. rounded_word (value_word q3 acc.old (16 + c)) shift) result out.old
-        out.new }
-{
-    if q3 == 0 {
-        running_sums(acc, width + 16);
-    }
-    let values = &acc[16..16 + width];
-    if !sure {
-        if !fit_narrow(values, width, shift, word) {
-            return false;
-        }
-    }
-    write_narrow(out, values, width, shift);
-    true
-}
-
-// The same of values of 64 bits.
-fn write_longs(out: &mut [i32], wide: &[u64], sure: bool, width: usize, shift: u8, word: u8) -> bool
-    requires { LongsDue sure width shift word (length out.old) wide.now }
-    ensures { Written sure width word (λ c. rounded (get_or wide.now c 0) shift) result out.old out.new }
-{
-    if !sure {
-        if !fit_wide(wide, width, shift, word) {
-            return false;
-        }
-    }
-    write_wide(out, wide, width, shift);
-    true
-}
-
-// The pixels of all values into the first places of the output, where each fits its word.
-fn write_due(
-    out: &mut [i32],
-    acc: &mut [u32],
-    wide: &[u64],
-    narrow: bool,
-    sure: bool,
-    width: usize,
-    q3: u8,
-    shift: u8,
-    word: u8,
-) -> bool
-    requires { PixelsDue narrow sure width shift word (length out.old) (length acc.old) wide.now }
-    ensures { Written sure width word (pixel_of narrow q3 shift acc.old wide.now) result out.old
-        out.new }
-{
-    if narrow {
-        write_words(out, acc, sure, width, q3, shift, word)
-    } else {
-        write_longs(out, wide, sure, width, shift, word)
-    }
-}
-
-// All of an arrival but the keeping of its row: question 19, and what it leaves. A table whose pixels surely fit their words is not asked
-// for them.
-pub fn take<'a>(
-    acc: &mut [u32],
-    wide: &mut [u64],
+    acc: &mut [V],
     line: &mut [u32],
-    zeros: &'a [u16],
-    narrow: bool,
-    sure: bool,
-    t: Table,
-    width: usize,
-    arrival: usize,
-    delay: usize,
-    samples: &'a [u16],
     sums: &mut [u32],
-    row: &'a [u16],
     out: &mut [i32],
-) -> Verdict
-    requires { TakeFits (arriving t width arrival row.now samples.now sums.old) delay narrow sure (length out.old)
-        acc.old wide.old line.old zeros.now }
-    ensures { leaves result samples.now sums.new out.new
-        ≡ take_of (arriving t width arrival row.now samples.now sums.old) out.old }
+) -> Result<(), Refusal>
+    requires fits { V.fits arriving.now.table.now }
+    requires surely { sure ≡ true → sure_table arriving.now.table.now ≡ true }
+    requires held { V.held (arrival arriving.now sums.old) 0 acc.old }
+    requires padded { ZeroPadded (length arriving.now.row.now) line.old }
+    requires sums_long { arriving.now.table.now.count * length arriving.now.row.now ≤ length sums.old }
+    requires lent { length arriving.now.row.now ≤ length out.old }
+    ensures { leaves (said result) arriving.now.samples.now sums.new out.new ≡ take_of (arrival arriving.now sums.old) out.old }
 {
-    let failed = values(
-        acc, wide, line, zeros, narrow, t, width, arrival, delay, samples, sums, row,
-    );
-    if failed < t.count {
-        roll_back_first(
-            sums,
-            zeros,
-            t,
-            failed + 1,
-            width,
-            arrival,
-            delay,
-            samples,
-            row,
-        );
-        return Verdict::Refused(19, failed as u32);
+    let count = arriving.table.count;
+    if let Err(k) = values(arriving, acc, line, sums) {
+        roll_back_first(arriving, k + 1, sums);
+        return Err(carried(k));
     }
-    if arrival < delay {
-        return Verdict::Accepted;
+    if arriving.number < arriving.delay {
+        return Ok(());
     }
-    if !write_due(out, acc, wide, narrow, sure, width, t.q3, t.t, t.w) {
-        roll_back_first(sums, zeros, t, t.count, width, arrival, delay, samples, row);
-        return Verdict::Refused(19, t.count as u32);
+    if !V::write(arriving, sure, acc, out) {
+        roll_back_first(arriving, count, sums);
+        return Err(carried(count));
     }
-    Verdict::Accepted
+    Ok(())
+}
+
+/// Question 19 is answered no at a place.
+fn carried(place: usize) -> Refusal
+    requires { place ≤ 16 }
+    ensures { said (Err result) ≡ refused 19 place }
+{
+    Refusal {
+        question: Question::Carried,
+        place: place as u32,
+    }
 }

@@ -1,13 +1,7 @@
 -- How large a loss figure, and its product with a weight, can be.
 -- Assumes nothing.
-use Prim.Native.Nat.{ℕ, ◌+◌, ◌-◌, ◌*◌, ◌≤◌, ◌<◌}
-use native.Mathlib.Nat.{mul-le-mul}
-use native.Mathlib.Omega.{arith}
-use mathlib.Core.Path.{◌≡◌, sym, ◌∙◌, subst}
-use mathlib.Core.Bool.{true}
-use lib.Dec.{T, leb}
-use lib.Pow.{pow_mono}
-use mir.Facts.{and_yes}
+use Rattle.std.proofs.Common.{ℕ, ◌+◌, ◌-◌, ◌*◌, ◌≤◌, ◌<◌, mul-le-mul, arith, ◌≡◌, sym, ◌∙◌, subst, true, T, leb, pow_mono}
+use Rattle.std.proofs.Math.Facts.{and_yes}
 use Rattle.arith.proofs.Bools.{true_of}
 use Rattle.layout.specs.declared.Table.{Table}
 use Rattle.layout.specs.Contents.{rect}
@@ -15,7 +9,7 @@ use Rattle.layout.specs.Measure.{loss_figure}
 use Rattle.limits.specs.Limits.{bits_good, drops_good, fitting, acceptable}
 use Rattle.limits.proofs.Granted.{Granted}
 use Rattle.limits.proofs.Values.{acceptable_asked}
-use Rattle.figures.specs.Sizes.{share_most}
+use Rattle.figures.specs.Sizes.{loss_most, share_most}
 
 tests : (t : Table) → T (fitting t) → (bits_good t.b ≡ true) × (drops_good t.b t.q1 t.q2 t.q3 ≡ true)
 unfolding fitting
@@ -30,10 +24,6 @@ head_tests t e =
     let a = subst T (sym e ∙ acceptable_asked t) tt in
     let b = (and_yes (fitting t) _ (and_yes (leb 1 t.count) _ a).1).0 in
     tests t b
-
--- 2^28, which no loss figure of an accepted table passes
-abbrev pub loss_most : ℕ
-loss_most = 268435456
 
 pub loss_most_lem : {t : Table} (g : Granted t) (k : ℕ) → k < t.count → loss_figure t (rect t k) ≤ loss_most
 unfolding loss_figure

@@ -1,15 +1,9 @@
 -- Division rounded up, and floors of numbers that are near to each other.
 -- Assumes nothing.
-use Prim.Native.Nat.{ℕ, zero, suc, ◌+◌, ◌-◌, ◌*◌, ◌/◌, ◌%◌, ◌^◌, ◌≤◌, ◌<◌}
-use native.Mathlib.Nat.{lt-div-mul-add, div-add-mod, div-eq_of_lt, div-eq-sub-div, zero-div, add-mul-div_left, mul-le-mul_left}
-use native.Mathlib.Numerals.{add-one}
-use native.Mathlib.Omega.{arith}
-use mathlib.Core.Path.{◌≡◌, sym, ap, ◌∙◌}
-use mathlib.Core.Bool.{Bool, true, false, not}
-use lib.Dec.{T, leb, leb→le, nleb→lt}
-use lib.IntN.{ℤ, pos, neg_ℤ, ◌-ℤ◌}
-use lib.Pow.{pow_pos, shr_mono}
-use lib.Signed.{◌≤ℤ◌}
+use Rattle.std.proofs.Common.{ℕ, zero, suc, ◌+◌, ◌-◌, ◌*◌, ◌/◌, ◌%◌, ◌^◌, ◌≤◌, ◌<◌, mul-le-mul_left, add-one, arith, ◌≡◌, sym, ap, ◌∙◌, Bool, true, false, not, T, leb, leb→le, ℤ, pos, neg_ℤ, ◌-ℤ◌, pow_pos, ◌≤ℤ◌}
+use Rattle.std.proofs.Math.Nat.{lt-div-mul-add, div-add-mod, div-eq_of_lt, div-eq-sub-div, zero-div, add-mul-div_left}
+use Rattle.std.proofs.Math.Dec.{nleb→lt}
+use Rattle.std.proofs.Math.Pow.{shr_mono}
 use Rattle.arith.specs.Floor.{floor_div}
 use Rattle.arith.specs.Part.{pos_part, neg_part}
 use Rattle.arith.proofs.Floors.{floor_below, floor_above}

@@ -1,13 +1,7 @@
 -- A scan of samples whose cut is 0: what is dropped of it is all of it.
 -- Assumes nothing.
-use Prim.Native.Nat.{ℕ, suc, ◌+◌, ◌-◌, ◌*◌, ◌/◌, ◌^◌, ◌≤◌, ◌<◌}
-use native.Mathlib.Nat.{div-eq_of_lt, zero-div}
-use native.Mathlib.Omega.{arith}
-use mathlib.Core.Path.{◌≡◌, sym, ap, ap₂, ◌∙◌}
-use mathlib.Core.Bool.{true}
-use lib.IntN.{ℤ, pos, ◌+ℤ◌}
-use lib.ListN.{length}
-use lib.Pow.{pow_pos, pow_mono}
+use Rattle.std.proofs.Common.{ℕ, suc, ◌+◌, ◌-◌, ◌*◌, ◌/◌, ◌^◌, ◌≤◌, ◌<◌, arith, ◌≡◌, sym, ap, ap₂, ◌∙◌, true, ℤ, pos, ◌+ℤ◌, length, pow_pos, pow_mono}
+use Rattle.std.proofs.Math.Nat.{div-eq_of_lt, zero-div}
 use Rattle.arith.specs.All.{all}
 use Rattle.arith.specs.Diff.{Diff}
 use Rattle.arith.specs.Part.{pos_part, neg_part}

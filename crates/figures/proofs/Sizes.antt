@@ -1,13 +1,9 @@
 -- How large a bound on a pixel can be.
 -- Assumes nothing.
-use Prim.Native.Nat.{ℕ, ◌+◌, ◌-◌, ◌*◌, ◌^◌, ◌≤◌, ◌<◌}
-use native.Mathlib.Nat.{div-le_self}
-use native.Mathlib.Omega.{arith}
-use mathlib.Core.Path.{◌≡◌, refl}
-use mathlib.Core.Bool.{Bool, true, false, cond, ◌&&◌}
-use lib.IntN.{ℤ, pos, negsuc}
-use lib.Dec.{T}
-use lib.Pow.{pow_mono}
+use Rattle.std.proofs.Common.{ℕ, ◌+◌, ◌-◌, ◌*◌, ◌^◌, ◌≤◌, ◌<◌, div-le_self, arith, ◌≡◌, ◌&&◌, ℤ, pos, negsuc, T, pow_mono, Some, sym, subst}
+use Rattle.std.proofs.lemmas.Option.{cond_some}
+use Rattle.std.proofs.Math.Facts.{and_yes}
+use Rattle.arith.proofs.Bools.{true_of}
 use Rattle.arith.specs.Part.{pos_part, neg_part}
 use Rattle.arith.specs.Twos.{fits_signed}
 use Rattle.arith.proofs.Sums.{sum_bound}
@@ -19,7 +15,8 @@ use Rattle.limits.specs.Limits.{acceptable}
 use Rattle.limits.proofs.Granted.{Granted, granted}
 use Rattle.rule.specs.Accuracy.{loss_under}
 use Rattle.rule.specs.Questions.{width_good}
-use Rattle.figures.specs.Measured.{ceil_div, pixels_above, pixels_below, measured, not_measured, figures_of}
+use Rattle.figures.specs.Measured.{ceil_div, pixels_above, pixels_below, measured, figures_of}
+use Rattle.figures.specs.declared.Figures.{Figures}
 use Rattle.figures.specs.Sizes.{share_most, shares_most}
 use Rattle.figures.proofs.Bounds.{loss_most_lem, share_most_lem}
 
@@ -42,16 +39,11 @@ ceil_most : {n t : ℕ} → n ≤ shares_most → t ≤ 31 → ceil_div n t ≤ 
 unfolding ceil_div
 ceil_most {n} {t} h l = let p = pow_mono {i = t} {j = 31} l in let d = div-le_self (n + (2 ^ t - 1)) (2 ^ t) in omega arith
 
-pub figures_most : (t : Table) (l : ℕ) → ((figures_of t l).below ≤ figure_most) × ((figures_of t l).above ≤ figure_most)
+pub figures_most : (t : Table) (l : ℕ) (f : Figures) → figures_of t l ≡ Some f → (f.below ≤ figure_most) × (f.above ≤ figure_most)
 unfolding figures_of pixels_above pixels_below
-figures_most t l = go (acceptable t) (width_good l) refl
-  where
-    go : (a w : Bool) → acceptable t ≡ a
-        → ((cond (a && w) (measured t l) not_measured).below ≤ figure_most) × ((cond (a && w) (measured t l) not_measured).above ≤ figure_most)
-    go true true e =
-        let g = granted t e in
-        let n = under_most g neg_part (λ k h. (part_most_lem (rect t k).weight (g.weight k h)).1) in
-        let p = under_most g pos_part (λ k h. (part_most_lem (rect t k).weight (g.weight k h)).0) in
-        (ceil_most {t = t.t} n g.shift_most, ceil_most {t = t.t} p g.shift_most)
-    go true false e = (omega arith, omega arith)
-    go false w e = (omega arith, omega arith)
+figures_most t l f e =
+    let s = cond_some (acceptable t && width_good l) (measured t l) f e in
+    let g = granted t (true_of _ (and_yes (acceptable t) (width_good l) (subst T (sym s.0) tt)).0) in
+    let n = under_most g neg_part (λ k h. (part_most_lem (rect t k).weight (g.weight k h)).1) in
+    let p = under_most g pos_part (λ k h. (part_most_lem (rect t k).weight (g.weight k h)).0) in
+    subst (λ (f : Figures). (f.below ≤ figure_most) × (f.above ≤ figure_most)) s.1 (ceil_most {t = t.t} n g.shift_most, ceil_most {t = t.t} p g.shift_most)

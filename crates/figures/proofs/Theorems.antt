@@ -1,13 +1,7 @@
 -- How far a pixel may be from the full one, and tables for which the figures are reached.
 -- Assumes nothing.
-use Prim.Native.Nat.{ℕ, ◌%◌, ◌^◌}
-use native.Mathlib.Nat.{zero-div, mod-lt}
-use native.Mathlib.Omega.{arith}
-use mathlib.Core.Path.{◌≡◌, refl, ap, ap₂, ◌∙◌}
-use mathlib.Core.Bool.{true}
-use mathlib.Core.List.{List, [], ◌∷◌}
-use lib.Dec.{eqb}
-use lib.IntN.{ℤ, pos, neg_ℤ, ◌-ℤ◌, ◌*ℤ◌}
+use Rattle.std.proofs.Common.{ℕ, ◌%◌, ◌^◌, mod-lt, arith, ◌≡◌, refl, ap, ap₂, ◌∙◌, true, List, [], ◌∷◌, eqb, ℤ, pos, neg_ℤ, ◌-ℤ◌, ◌*ℤ◌}
+use Rattle.std.proofs.Math.Nat.{zero-div}
 use Rattle.arith.specs.Floor.{floor_div}
 use Rattle.arith.specs.Part.{pos_part, neg_part}
 use Rattle.arith.proofs.Ints.{diff_pos, diff_neg, diff_parts, diff_minus, diff_eq, sum_ℤ_cong}

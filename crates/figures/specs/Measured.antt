@@ -1,6 +1,6 @@
 -- What the drops of a table save and cost: the bits of its sums, and how far a pixel may be from the full one.
 -- Assumes nothing.
-use Rattle.std.specs.Prelude.{ℕ, ◌+◌, ◌-◌, ◌*◌, ◌/◌, ◌^◌, true, false, cond, ◌&&◌}
+use Rattle.std.specs.Prelude.{ℕ, ◌+◌, ◌-◌, ◌*◌, ◌/◌, ◌^◌, cond, ◌&&◌, Option, Some, None}
 use Rattle.arith.specs.Sum.{sum}
 use Rattle.arith.specs.Largest.{largest}
 use Rattle.arith.specs.Part.{pos_part, neg_part}
@@ -41,7 +41,6 @@ pixels_below t = ceil_div (loss_under neg_part t) t.t
 abbrev pub measured : Table → (l : ℕ) → Figures
 measured t l =
     record {
-      accepted = true;
       column = widest_column t;
       window = widest_window t;
       sums = sums_bits t l;
@@ -49,10 +48,6 @@ measured t l =
       above = pixels_above t;
     }
 
--- those of what is not accepted
-abbrev pub not_measured : Figures
-not_measured = record { accepted = false; column = 0; window = 0; sums = 0; below = 0; above = 0 }
-
--- the figures where questions 11 and 12 are answered yes
-unfoldable pub figures_of : Table → (l : ℕ) → Figures
-figures_of t l = cond (acceptable t && width_good l) (measured t l) not_measured
+-- the figures where questions 11 and 12 are answered yes; nothing else has any
+unfoldable pub figures_of : Table → (l : ℕ) → Option Figures
+figures_of t l = cond (acceptable t && width_good l) (Some (measured t l)) None

@@ -2,6 +2,10 @@
 -- Assumes nothing.
 use Rattle.std.specs.Prelude.{ℕ}
 
+-- 2^28, which no loss figure of an accepted table passes
+abbrev pub loss_most : ℕ
+loss_most = 268435456
+
 -- 2^43: no loss figure of an accepted table, times its weight's size, is above it
 abbrev pub share_most : ℕ
 share_most = 8796093022208

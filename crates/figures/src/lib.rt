@@ -1,11 +1,13 @@
-// What the drops of a table save and cost.
-//
-//   measure  the figures of a table at a width: its word lengths, the bits of all its sums, and how far a pixel may be from the full
-//            one; not accepted, and 0, where loading does not accept the table or the width is not from 1 to 1024
+//! What the drops of a table save and cost.
+//!
+//!   measure  the figures of a table at a width: its word lengths, the bits of all its sums, and how far a pixel may be from the full
+//!            one; none where loading does not accept the table or the width is not from 1 to 1024
 #![tactic(auto)]
 
-ghost use Rattle.std.specs.Prelude.{◌≡◌};
-ghost use Rattle.figures.specs.Measured.{not_measured, figures_of};
+ghost use Rattle.std.specs.Prelude.{◌≡◌, true};
+ghost use Rattle.limits.specs.Limits.{acceptable};
+ghost use Rattle.rule.specs.Questions.{width_good};
+ghost use Rattle.figures.specs.Measured.{measured, figures_of};
 
 mod losses;
 mod words;
@@ -16,11 +18,10 @@ use losses::{ceil_shift, loss_sums};
 use rule::width_good;
 use words::word_bits;
 
-// The figures of a table at a width: whether both are accepted; the widest column word and the widest window word, formulas (6) and (7);
-// the bits of all sums that are kept; and that the full pixel less the cut pixel lies between -below and above.
-#[derive(Clone, Copy)]
+/// The figures of a table at a width: the widest column word and the widest window word, formulas (6) and (7); the bits of all sums that
+/// are kept; and that the full pixel less the cut pixel lies between -below and above.
+#[derive(Clone, Copy, Debug, PartialEq, Eq)]
 pub struct Figures {
-    pub accepted: bool,
     pub column: u32,
     pub window: u32,
     pub sums: u64,
@@ -28,38 +29,30 @@ pub struct Figures {
     pub above: u64,
 }
 
-// The figures of what is not accepted.
-fn none() -> Figures
-    ensures { result ≡ not_measured }
+/// The figures of a table at a width, where questions 11 and 12 are answered yes.
+#[tactic(auto, unfolding(crate::specs::Measured::figures_of))]
+pub fn measure(t: &Table, width: usize) -> Option<Figures>
+    ensures { result ≡ figures_of t.now width }
 {
-    Figures {
-        accepted: false,
-        column: 0,
-        window: 0,
-        sums: 0,
-        below: 0,
-        above: 0,
+    if accepted(*t) && width_good(width) {
+        Some(measured(t, width))
+    } else {
+        None
     }
 }
 
-// The figures of a table at a width, by questions 11 and 12.
-pub fn measure(t: Table, width: usize) -> Figures
-    ensures { result ≡ figures_of t width }
+/// Those figures.
+fn measured(t: &Table, width: usize) -> Figures
+    requires { (acceptable t.now ≡ true) × (width_good width ≡ true) }
+    ensures { result ≡ measured t.now width }
 {
-    if !accepted(t) {
-        return none();
-    }
-    if !width_good(width) {
-        return none();
-    }
-    let w = word_bits(t, width as u64);
-    let l = loss_sums(t);
+    let words = word_bits(t, width as u64);
+    let losses = loss_sums(t);
     Figures {
-        accepted: true,
-        column: w.column,
-        window: w.window,
-        sums: w.sums,
-        below: ceil_shift(l.below, t.t),
-        above: ceil_shift(l.above, t.t),
+        column: words.column,
+        window: words.window,
+        sums: words.sums,
+        below: ceil_shift(losses.low, t.t),
+        above: ceil_shift(losses.high, t.t),
     }
 }

@@ -1,45 +1,33 @@
-// The bits of the sums.
-ghost use Rattle.std.specs.Prelude.{◌≡◌, ◌≤◌, max};
+//! The bits of the sums.
+ghost use Rattle.std.specs.Prelude.{◌≡◌, ◌≤◌};
 ghost use Rattle.figures.specs.Measured.{widest_column, widest_window, sums_bits};
 
-use layout::{Table, column_word, window_word};
+use layout::Table;
 
-// The widest words of a table, and the bits of all its sums.
-#[derive(Clone, Copy)]
+/// The widest words of a table, and the bits of all its sums.
+#[derive(Clone, Copy, Debug, PartialEq, Eq)]
 pub struct Words {
     pub column: u32,
     pub window: u32,
     pub sums: u64,
 }
 
-fn larger(a: u32, b: u32) -> u32
-    ensures { result ≡ max a b }
+/// The words of a table's rectangles, one after the other.
+pub fn word_bits(t: &Table, width: u64) -> Words
+    requires { (t.now.count ≤ 16) × (width ≤ 1024) }
+    ensures { (result.column ≡ widest_column t.now) × (result.window ≡ widest_window t.now) × (result.sums ≡ sums_bits t.now width) }
 {
-    if a < b { b } else { a }
-}
-
-// The words of a table's rectangles, one after the other.
-pub fn word_bits(t: Table, width: u64) -> Words
-    requires { (t.count ≤ 16) × (width ≤ 1024) }
-    ensures { (result.column ≡ widest_column t) × (result.window ≡ widest_window t) × (result.sums ≡ sums_bits t width) }
-{
-    let n = t.count;
-    let mut column = 0;
-    let mut window = 0;
-    let mut sums: u64 = 0;
-    let mut k = 0;
-    while k < n {
-        let r = t.rects[k];
-        let c = column_word(t, r);
-        let w = window_word(t, r);
-        column = larger(column, c);
-        window = larger(window, w);
-        sums += width * c as u64 + w as u64;
-        k += 1;
+    let mut words = Words {
+        column: 0,
+        window: 0,
+        sums: 0,
+    };
+    for &r in t.rects() {
+        let column = t.column_word(r);
+        let window = t.window_word(r);
+        words.column = words.column.max(column);
+        words.window = words.window.max(window);
+        words.sums += width * u64::from(column) + u64::from(window);
     }
-    Words {
-        column,
-        window,
-        sums,
-    }
+    words
 }

@@ -1,10 +1,6 @@
 -- A window of an odd number of rows or columns reaches as far behind its place as ahead.
 -- Assumes nothing.
-use Prim.Native.Nat.{ℕ, suc, ◌+◌, ◌-◌, ◌*◌, ◌/◌, ◌≤◌}
-use native.Mathlib.Omega.{arith}
-use mathlib.Core.Path.{◌≡◌, refl}
-use lib.IntN.{pos, negsuc}
-use borrow.Author.Tests.{le-leb}
+use Rattle.std.proofs.Common.{ℕ, suc, ◌+◌, ◌-◌, ◌*◌, ◌/◌, ◌≤◌, arith, ◌≡◌, refl, pos, negsuc, le-leb}
 use Rattle.filtering.specs.Window.{centred_of}
 
 -- from k before the place to k after it: the trailing edge is at -(k + 1)

@@ -1,24 +1,23 @@
 -- Which tables, headers and rows are taken, and what is wrong with the others.
 -- Assumes nothing.
-use Rattle.std.specs.Prelude.{ℕ, ◌*◌, ◌%◌, ◌^◌, ◌≤◌, ◌≡◌, Bool, cond, leb, ltb, eqb}
-use Rattle.layout.specs.declared.Verdict.{Verdict}
-use Rattle.layout.specs.declared.Verdict.TheVariants.{Accepted as Taken, Refused}
+use Rattle.std.specs.Prelude.{ℕ, ◌*◌, ◌%◌, ◌^◌, ◌≤◌, ◌≡◌, Bool, cond, leb, ltb, eqb, Result, Ok, Err}
+use Rattle.layout.specs.declared.asking.Refusal.{Refusal}
+use Rattle.layout.specs.Questions.{number_of}
 use Rattle.rule.specs.Questions.{width_good}
 use Rattle.pgm.specs.declared.Opening.{Opening}
-use Rattle.pgm.specs.declared.Opening.TheVariants.{Whole, More, Foreign as NoPgm, Bad as BadNumber, Large as LargeNumber}
+use Rattle.pgm.specs.declared.NoHeader.{NoHeader}
+use Rattle.pgm.specs.declared.NoHeader.TheVariants.{More, Foreign as NoPgm, Bad as BadNumber, Large as LargeNumber, Unended as NotEnded}
 use Rattle.pgm.specs.Raster.{sample_bytes}
 use Rattle.filtering.specs.declared.Job.{Job}
-use Rattle.filtering.specs.declared.Judged.{Judged}
-use Rattle.filtering.specs.declared.Judged.TheVariants.{Accepted, Faulty}
 use Rattle.filtering.specs.declared.Fault.{Fault}
 use Rattle.filtering.specs.declared.Fault.TheVariants.{
-  None,
   NoTable,
   Table,
   Empty,
   CutHeader,
   Foreign,
   Bad,
+  Unended,
   Large,
   NoMaxval,
   Maxval,
@@ -29,9 +28,9 @@ use Rattle.filtering.specs.declared.Fault.TheVariants.{
 }
 
 -- a table file of n bytes
-unfoldable pub table_fault_of : Verdict → (n : ℕ) → Fault
-table_fault_of Taken n = cond (eqb n 0) NoTable None
-table_fault_of (Refused number place) n = cond (eqb n 0) NoTable (Table number)
+unfoldable pub table_fault_of : {A : Type 0} → Result A Refusal → (n : ℕ) → Result A Fault
+table_fault_of (Ok table) n = cond (eqb n 0) (Err NoTable) (Ok table)
+table_fault_of (Err refusal) n = cond (eqb n 0) (Err NoTable) (Err (Table refusal.question))
 
 -- samples up to the maxval fit b bits
 unfoldable pub maxval_fits : (maxval b : ℕ) → Bool
@@ -51,23 +50,24 @@ pub record Accepts (j : Job) : Type 0 where
   pub most : j.need ≤ 2048
 
 -- a whole header: the maxval is from 1 to 4,095 and fits b bits, the width is from 1 to 1,024
-unfoldable pub whole_of : (b width height maxval : ℕ) → Judged
+unfoldable pub whole_of : (b width height maxval : ℕ) → Result Job Fault
 whole_of b width height maxval =
-    cond (eqb maxval 0) (Faulty NoMaxval)
+    cond (eqb maxval 0) (Err NoMaxval)
     (cond (leb maxval 4095)
-    (cond (maxval_fits maxval b) (cond (width_good width) (Accepted (job_of width height maxval)) (Faulty (Width width))) (Faulty (Bits maxval b)))
-    (Faulty (Maxval maxval)))
+    (cond (maxval_fits maxval b) (cond (width_good width) (Ok (job_of width height maxval)) (Err (Width width))) (Err (Bits maxval b)))
+    (Err (Maxval maxval)))
 
 -- what the first n bytes of the scan come to, for samples of b bits
-unfoldable pub judged_of : (b : ℕ) → Opening → (n : ℕ) → Judged
-judged_of b (Whole width height maxval end) n = whole_of b width height maxval
-judged_of b More n = cond (eqb n 0) (Faulty Empty) (Faulty CutHeader)
-judged_of b NoPgm n = Faulty Foreign
-judged_of b (BadNumber k at) n = Faulty (Bad k at)
-judged_of b (LargeNumber k at) n = Faulty (Large k at)
+unfoldable pub judged_of : (b : ℕ) → Result Opening NoHeader → (n : ℕ) → Result Job Fault
+judged_of b (Ok opening) n = whole_of b opening.width opening.height opening.maxval
+judged_of b (Err More) n = cond (eqb n 0) (Err Empty) (Err CutHeader)
+judged_of b (Err NoPgm) n = Err Foreign
+judged_of b (Err (BadNumber entry at)) n = Err (Bad entry at)
+judged_of b (Err (NotEnded at)) n = Err (Unended at)
+judged_of b (Err (LargeNumber entry at)) n = Err (Large entry at)
 
 -- rows that were read: the engine's refusal comes first; then a sample above the maxval, at `place` of `count` samples
-unfoldable pub row_fault_of : Verdict → Job → (rows place count : ℕ) → Fault
-row_fault_of (Refused number at) job rows place count = Engine number at
-row_fault_of Taken job rows place count =
-    cond (leb count place) None (cond (eqb job.width 0) None (Sample rows (place % job.width) job.maxval))
+unfoldable pub row_fault_of : Result (Unit {0}) Refusal → Job → (rows place count : ℕ) → Result (Unit {0}) Fault
+row_fault_of (Err refusal) job rows place count = Err (Engine (number_of refusal.question) refusal.place)
+row_fault_of (Ok taken) job rows place count =
+    cond (leb count place) (Ok tt) (cond (eqb job.width 0) (Ok tt) (Err (Sample rows (place % job.width) job.maxval)))

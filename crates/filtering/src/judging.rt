@@ -1,37 +1,36 @@
-// Whether the table file, the scan's header and its rows are taken.
+//! Whether the table file, the scan's header and its rows are taken.
 ghost use Rattle.std.specs.Prelude.{◌≡◌, ◌*◌, ◌≤◌};
 ghost use Rattle.pgm.specs.Raster.{sample_bytes};
-ghost use Rattle.filtering.specs.Judging.{maxval_fits, job_of, whole_of, judged_of, table_fault_of, row_fault_of};
+ghost use Rattle.filtering.specs.Judging.{maxval_fits, whole_of, judged_of, table_fault_of, row_fault_of};
 
-use crate::{Fault, Job, Judged};
-use layout::Verdict;
-use pgm::Opening;
+use crate::{Fault, Job};
+use layout::{Refusal, Table};
+use pgm::{NoHeader, Opening};
 
-// What is wrong with a table file of n bytes that loading answered so.
-pub fn table_fault(v: Verdict, n: usize) -> Fault
-    ensures { result ≡ table_fault_of v n }
+/// The table of a file of n bytes that loading answered so, or what is wrong with it.
+#[tactic(auto, unfolding(crate::specs::Judging::table_fault_of))]
+pub fn table_fault(loaded: Result<Table, Refusal>, n: usize) -> Result<Table, Fault>
+    ensures { result ≡ table_fault_of loaded n }
 {
     if n == 0 {
-        return Fault::NoTable;
+        return Err(Fault::NoTable);
     }
-    match v {
-        Verdict::Accepted => Fault::None,
-        Verdict::Refused(number, _) => Fault::Table(number),
+    match loaded {
+        Ok(table) => Ok(table),
+        Err(refusal) => Err(Fault::Table(refusal.question)),
     }
 }
 
-// Whether samples up to this maxval, at most 4,095, fit b bits.
+/// Whether samples up to this maxval, at most 4,095, fit b bits.
 fn maxval_fits(maxval: u32, b: u8) -> bool
     requires { maxval ≤ 4095 }
     ensures { result ≡ maxval_fits maxval b }
 {
-    if 12 <= b {
-        return true;
-    }
-    (maxval as u64) < arith::power(b)
+    b >= 12 || maxval < 1 << b
 }
 
-// How many bytes a row takes.
+/// How many bytes a row takes.
+#[tactic(auto, unfolding(pgm::specs::Raster::sample_bytes))]
 fn row_bytes(width: u32, maxval: u32) -> u32
     requires { width ≤ 1024 }
     ensures { result ≡ width * sample_bytes maxval }
@@ -39,24 +38,25 @@ fn row_bytes(width: u32, maxval: u32) -> u32
     if maxval <= 255 { width } else { width * 2 }
 }
 
-// A whole header, held to the limits and to b.
-fn whole(b: u8, width: u32, height: u32, maxval: u32) -> Judged
+/// A whole header, held to the limits and to b.
+#[tactic(auto, unfolding(crate::specs::Judging::whole_of), using(rule::proofs::Asked::width_bounds))]
+fn whole(b: u8, width: u32, height: u32, maxval: u32) -> Result<Job, Fault>
     ensures { result ≡ whole_of b width height maxval }
 {
     if maxval == 0 {
-        return Judged::Faulty(Fault::NoMaxval);
+        return Err(Fault::NoMaxval);
     }
-    if 4095 < maxval {
-        return Judged::Faulty(Fault::Maxval(maxval));
+    if maxval > 4095 {
+        return Err(Fault::Maxval(maxval));
     }
     if !maxval_fits(maxval, b) {
-        return Judged::Faulty(Fault::Bits(maxval, b));
+        return Err(Fault::Bits(maxval, b));
     }
     if !rule::width_good(width as usize) {
-        return Judged::Faulty(Fault::Width(width));
+        return Err(Fault::Width(width));
     }
     let need = row_bytes(width, maxval);
-    Judged::Accepted(Job {
+    Ok(Job {
         width,
         height,
         maxval,
@@ -64,40 +64,42 @@ fn whole(b: u8, width: u32, height: u32, maxval: u32) -> Judged
     })
 }
 
-// What the first n bytes of a scan come to, for samples of b bits.
-pub fn judge(b: u8, h: Opening, n: usize) -> Judged
-    ensures { result ≡ judged_of b h n }
+/// What the first n bytes of a scan come to, for samples of b bits.
+#[tactic(auto, unfolding(crate::specs::Judging::judged_of))]
+pub fn judge(b: u8, header: Result<Opening, NoHeader>, n: usize) -> Result<Job, Fault>
+    ensures { result ≡ judged_of b header n }
 {
-    match h {
-        Opening::Whole(width, height, maxval, _) => whole(b, width, height, maxval),
-        Opening::More => {
-            if n == 0 {
-                Judged::Faulty(Fault::Empty)
-            } else {
-                Judged::Faulty(Fault::CutHeader)
-            }
-        }
-        Opening::Foreign => Judged::Faulty(Fault::Foreign),
-        Opening::Bad(k, at) => Judged::Faulty(Fault::Bad(k, at)),
-        Opening::Large(k, at) => Judged::Faulty(Fault::Large(k, at)),
+    match header {
+        Ok(opening) => whole(b, opening.width, opening.height, opening.maxval),
+        Err(NoHeader::More) => Err(if n == 0 {
+            Fault::Empty
+        } else {
+            Fault::CutHeader
+        }),
+        Err(NoHeader::Foreign) => Err(Fault::Foreign),
+        Err(NoHeader::Bad(entry, at)) => Err(Fault::Bad(entry, at)),
+        Err(NoHeader::Unended(at)) => Err(Fault::Unended(at)),
+        Err(NoHeader::Large(entry, at)) => Err(Fault::Large(entry, at)),
     }
 }
 
-// What is wrong with rows that were read: the engine's refusal; or, where the lowest sample above the maxval stands at `place` of
-// `count`, that sample, with the rows taken before its own.
-pub fn row_fault(v: Verdict, job: Job, rows: u32, place: usize, count: usize) -> Fault
-    ensures { result ≡ row_fault_of v job rows place count }
+/// What is wrong with rows that were read: the engine's refusal; or, where the lowest sample above the maxval stands at `place` of
+/// `count`, that sample, with the rows taken before its own.
+#[tactic(auto, unfolding(crate::specs::Judging::row_fault_of))]
+pub fn row_fault(
+    taken: Result<(), Refusal>,
+    job: Job,
+    rows: u32,
+    place: usize,
+    count: usize,
+) -> Result<(), Fault>
+    ensures { result ≡ row_fault_of taken job rows place count }
 {
-    match v {
-        Verdict::Refused(number, at) => Fault::Engine(number, at),
-        Verdict::Accepted => {
-            if count <= place {
-                return Fault::None;
-            }
-            if job.width == 0 {
-                return Fault::None;
-            }
-            Fault::Sample(rows, place % job.width as usize, job.maxval)
-        }
+    if let Err(refusal) = taken {
+        return Err(Fault::Engine(refusal.question.number(), refusal.place));
     }
+    if count <= place || job.width == 0 {
+        return Ok(());
+    }
+    Err(Fault::Sample(rows, place % job.width as usize, job.maxval))
 }

@@ -1,14 +1,7 @@
 -- A rectangle's numbers held: question 8 is answered alike, and a rectangle that passes it and has a weight of 16 bits is not held.
 -- Assumes nothing.
-use Prim.Native.Nat.{ℕ, zero, suc, ◌≤◌, min}
-use native.Mathlib.Omega.{arith}
-use mathlib.Core.Path.{◌≡◌, sym, ap, ap₂, ◌∙◌, subst}
-use mathlib.Core.Bool.{Bool, true, false, cond, ◌&&◌}
-use mathlib.Core.List.{List, []}
-use lib.Dec.{T, leb, ltb}
-use lib.ListN.{get_or}
-use borrow.Author.Tests.{leb-true, ltb-true}
-use mir.Facts.{and_yes}
+use Rattle.std.proofs.Common.{ℕ, zero, suc, ◌≤◌, min, arith, ◌≡◌, sym, ap, ap₂, ◌∙◌, subst, Bool, true, false, cond, ◌&&◌, List, [], T, leb, ltb, get_or, leb-true, ltb-true}
+use Rattle.std.proofs.Math.Facts.{and_yes}
 use Rattle.arith.specs.Diff.{Diff}
 use Rattle.arith.specs.Twos.{fits_signed}
 use Rattle.arith.proofs.Bools.{bool_eq}

@@ -1,13 +1,6 @@
 -- What a line that passed its questions has: a rectangle's weight has 16 bits.
 -- Assumes nothing.
-use Prim.Native.Nat.{ℕ}
-use native.Mathlib.Omega.{arith}
-use mathlib.Core.Path.{◌≡◌, refl, sym, ap, ◌∙◌, subst}
-use mathlib.Core.Bool.{true, cond}
-use mathlib.Core.List.{List, [], ◌∷◌}
-use lib.Dec.{T, eqb}
-use lib.ListN.{length}
-use borrow.Author.Tests.{ne_eqb}
+use Rattle.std.proofs.Common.{ℕ, arith, ◌≡◌, refl, sym, ap, ◌∙◌, subst, true, cond, List, [], ◌∷◌, T, eqb, length, ne_eqb}
 use Rattle.arith.specs.Twos.{fits_signed}
 use Rattle.layout.proofs.Questions.{AllYes}
 use Rattle.text.specs.Ascii.{ascii}

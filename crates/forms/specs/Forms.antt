@@ -1,10 +1,12 @@
 -- The lines that a table's text is made of: what each kind of line looks like, and what is asked of a line by itself.
 -- Assumes nothing.
-use Rattle.std.specs.Prelude.{ℕ, suc, ◌+◌, min, Bool, true, false, cond, ◌&&◌, List, [], ◌∷◌, ltb, eqb, length, get_or, ℤ}
+use Rattle.std.specs.Prelude.{ℕ, suc, ◌+◌, min, Bool, true, false, cond, ◌&&◌, List, [], ◌∷◌, ltb, eqb, length, get_or, ℤ, Option, Some, None}
 use Rattle.arith.specs.Twos.{fits_signed}
 use Rattle.text.specs.Ascii.{ascii}
 use Rattle.layout.specs.declared.Rect.{Rect}
 use Rattle.layout.specs.Answers.{Question}
+use Rattle.forms.specs.declared.kinds.Kind.{Kind}
+use Rattle.forms.specs.declared.kinds.Kind.TheVariants.{Bits, Drops, Shift, Word, Rectangle}
 use Rattle.words.specs.Words.{words_of, same, is_number, is_integer, minus, size, with_sign, integer}
 
 -- ---- kinds of lines
@@ -17,6 +19,18 @@ names = ascii "bits" ∷ ascii "drops" ∷ ascii "shift" ∷ ascii "word" ∷ as
 unfoldable pub place_in : List (List ℕ) → (word : List ℕ) → ℕ
 place_in [] word = 0
 place_in (name ∷ names) word = cond (same word name) 0 (suc (place_in names word))
+
+-- the place of a kind among their names
+abbrev pub kind_number : Kind → ℕ
+kind_number Bits = 0
+kind_number Drops = 1
+kind_number Shift = 2
+kind_number Word = 3
+kind_number Rectangle = 4
+
+abbrev pub kind_said : Option Kind → ℕ
+kind_said None = 5
+kind_said (Some kind) = kind_number kind
 
 -- the kind of a line by its words; 5 where its first word is no kind's, and where it has none
 unfoldable pub kind_of : List (List ℕ) → ℕ

@@ -1,11 +1,6 @@
 -- Bands: lines that every rectangle covers alike.
 -- Assumes nothing.
-use Prim.Native.Nat.{ℕ, ◌+◌, ◌-◌, ◌*◌, ◌≤◌, ◌<◌}
-use native.Mathlib.Nat.{mul-le-mul_right}
-use native.Mathlib.Omega.{arith}
-use mathlib.Core.Path.{◌≡◌, sym, ap, ap₂, ◌∙◌}
-use mathlib.Core.Bool.{cond, ◌&&◌}
-use lib.IntN.{ℤ, pos, ◌*ℤ◌}
+use Rattle.std.proofs.Common.{ℕ, ◌+◌, ◌-◌, ◌*◌, ◌≤◌, ◌<◌, mul-le-mul_right, arith, ◌≡◌, sym, ap, ap₂, ◌∙◌, cond, ◌&&◌, ℤ, pos, ◌*ℤ◌}
 use Rattle.arith.specs.Sum.{sum}
 use Rattle.arith.proofs.Sums.{sum_cong, sum_const, sum_split}
 use Rattle.arith.proofs.Ints.{sum_ℤ_cong}

@@ -1,14 +1,8 @@
 -- The sums over the weight grid are at most those over the areas, whatever the edges.
 -- Assumes nothing.
-use Prim.Native.Nat.{ℕ, zero, suc, ◌+◌, ◌-◌, ◌*◌, ◌≤◌, ◌<◌}
-use native.Mathlib.Nat.{le_trans, le_of_eq, mul-le-mul, mul-le-mul_left}
-use native.Mathlib.Omega.{arith}
-use mathlib.Core.Path.{◌≡◌, ◌∙◌}
-use mathlib.Core.Bool.{Bool, true, false, cond}
-use lib.Dec.{T}
-use lib.IntN.{ℤ, ◌-ℤ◌}
-use lib.Signed.{le_z, lt_z}
-use mir.Facts.{and_yes}
+use Rattle.std.proofs.Common.{ℕ, zero, suc, ◌+◌, ◌-◌, ◌*◌, ◌≤◌, ◌<◌, le_trans, le_of_eq, mul-le-mul, mul-le-mul_left, arith, ◌≡◌, ◌∙◌, Bool, true, false, cond, T, ℤ, ◌-ℤ◌}
+use Rattle.std.specs.Int.Signed.{le_z, lt_z}
+use Rattle.std.proofs.Math.Facts.{and_yes}
 use Rattle.arith.specs.Part.{pos_part, neg_part}
 use Rattle.arith.specs.Sum.{sum}
 use Rattle.arith.proofs.Ints.{diff_parts, diff_sub, diff_minus, le_diff, lt_diff, diff_pos_part, diff_neg_part}

@@ -1,17 +1,9 @@
 -- Laws of a line's differences: one place set, a weight added between two places, a rectangle added, all rectangles added.
 -- Assumes nothing.
-use Prim.Native.Nat.{ℕ, zero, suc, ◌+◌, ◌-◌, ◌*◌, ◌≤◌, ◌<◌}
-use native.Mathlib.Nat.{not-suc-le-zero, le-suc_iff, suc_inj}
-use native.Mathlib.Omega.{arith}
-use mathlib.Core.Path.{◌≡◌, refl, sym, ap, ◌∙◌}
-use mathlib.Core.Logic.{⊎_elim}
-use mathlib.Core.Bool.{Bool, true, false, not, cond, ◌&&◌}
-use mathlib.Core.List.{List}
-use lib.Dec.{T, ltb, leb, eqb, ltb→lt, nltb→le}
-use lib.IntN.{ℤ, pos, ◌*ℤ◌}
-use lib.ListN.{length, get_or, set, replicate, length-set, length-replicate, get_or-replicate}
-use lib.Seq.{get_or-set_same, get_or-set_other}
-use borrow.Author.Tests.{lt-ltb, le-ltb, le-leb, lt-leb, eqb-true, eqb-false}
+use Rattle.std.proofs.Common.{ℕ, zero, suc, ◌+◌, ◌-◌, ◌*◌, ◌≤◌, ◌<◌, not-suc-le-zero, arith, ◌≡◌, refl, sym, ap, ◌∙◌, ⊎_elim, Bool, true, false, not, cond, ◌&&◌, List, T, ltb, leb, eqb, ltb→lt, nltb→le, ℤ, pos, ◌*ℤ◌, length, get_or, set, replicate, length-set, get_or-set_same, get_or-set_other, lt-ltb, le-ltb, le-leb, eqb-true}
+use Rattle.std.proofs.Math.Nat.{le-suc_iff, suc_inj}
+use Rattle.std.proofs.Math.ListN.{length-replicate, get_or-replicate}
+use Rattle.std.proofs.lemmas.Bool.{lt-leb, eqb-false}
 use Rattle.arith.specs.Sum.{sum, sum_ℤ}
 use Rattle.arith.specs.Diff.{Diff}
 use Rattle.arith.specs.Part.{pos_part, neg_part}
@@ -19,8 +11,7 @@ use Rattle.arith.proofs.Sums.{sum-suc, sum_cong, sum_const}
 use Rattle.arith.proofs.Ints.{diff_parts, diff_pos, diff_add, diff_scale, diff_shift, diff_pos_part, diff_neg_part, sum_ℤ-suc}
 use Rattle.layout.specs.declared.Rect.{Rect}
 use Rattle.grid.specs.Grid.{offset, covers, factor, grid_at}
-use Rattle.grid.specs.Lines.{delta_bias, weight_most, entry_most, place_above, up_to, line_sum}
-use Rattle.grid.specs.Lines.{Near, DeltasFit, Raised, Added, LineDeltas, EntriesFit}
+use Rattle.grid.specs.Lines.{delta_bias, weight_most, entry_most, place_above, up_to, line_sum, Near, DeltasFit, Raised, Added, LineDeltas, EntriesFit}
 use Rattle.grid.proofs.Offsets.{covers_placed}
 
 -- ---- one place set
@@ -204,6 +195,16 @@ module _ {k : ℕ} {f : ℕ → Rect} {a : ℕ} {xs : List ℕ} (l : LineDeltas 
 
   pub entries_fit : k ≤ 16 → EntriesFit xs
   entries_fit h = record { long = l.long; close = λ b i. let p = l.close b i in record { least = omega arith; most = omega arith } }
+
+  -- more rectangles, which add nothing
+  pub more_added : {n : ℕ} → k ≤ n → ((b : ℕ) → grid_at n f a b ≡ grid_at k f a b) → LineDeltas n f a xs
+  more_added h e =
+      record {
+        long = l.long;
+        near = λ b i. let p = l.near b i in record { least = omega arith; most = omega arith };
+        is = λ b i. rw (e b) (l.is b i);
+        close = λ b i. let p = l.close b i in record { least = omega arith; most = omega arith };
+      }
 
   -- the entries' parts by the differences
   pub high_parts : sum 31 (λ b. up_to xs b - suc b * delta_bias) ≡ line_sum pos_part k f a

@@ -1,15 +1,17 @@
 -- An entry of the weight grid by the positive and by the negative weights, and a factor as a product over its two axes.
 -- Assumes nothing.
-use Prim.Native.Nat.{ℕ, ◌*◌, ◌<◌}
-use mathlib.Core.Path.{◌≡◌, refl, ap}
-use mathlib.Core.Bool.{Bool, true, false, cond, ◌&&◌}
-use lib.IntN.{ℤ, pos, ◌*ℤ◌}
+use Rattle.std.proofs.Common.{List, get_or, length, min, ◌+◌, ◌-◌, ◌+ℤ◌, ◌≤◌, zero, suc, sym, ◌∙◌, arith, ℕ, ◌*◌, ◌<◌, ◌≡◌, refl, ap, Bool, true, false, cond, ◌&&◌, ℤ, pos, ◌*ℤ◌}
 use Rattle.arith.specs.Diff.{Diff}
 use Rattle.arith.specs.Part.{pos_part, neg_part}
-use Rattle.arith.specs.Sum.{sum}
-use Rattle.arith.proofs.Ints.{diff_parts, diff_scale, diff_sum, sum_ℤ_cong}
-use Rattle.arith.proofs.Sums.{sum_cong}
+use Rattle.arith.specs.Sum.{sum, sum_ℤ}
+use Rattle.std.proofs.lemmas.Int.{ints}
+use Rattle.std.proofs.lemmas.List.{get_or-take, length-take}
+use Rattle.std.proofs.Math.ListN.{get_or-eq_default}
+use Rattle.arith.proofs.Ints.{sum_ℤ-suc, diff_parts, diff_scale, diff_sum, sum_ℤ_cong}
+use Rattle.arith.proofs.Sums.{sum_cong, sum_split, sum_zero}
 use Rattle.layout.specs.declared.Rect.{Rect}
+use Rattle.layout.specs.declared.Table.{Table}
+use Rattle.layout.specs.Contents.{no_rect, rect, rects_of}
 use Rattle.layout.specs.Measure.{rows_of, cols_of}
 use Rattle.grid.specs.Grid.{area_sum, offset, covers, factor, grid_at, grid_sum}
 
@@ -48,3 +50,51 @@ module _ (n : ℕ) {f g : ℕ → Rect} (same : (k : ℕ) → k < n → f k ≡ 
   pub grid_cong : (part : ℤ → ℕ) → grid_sum part n f ≡ grid_sum part n g
   unfolding grid_sum
   grid_cong part = sum_cong 31 (λ a l. sum_cong 31 (λ b m. ap part (entry_cong a b)))
+
+-- ---- a struct's rectangles, of which those beyond its slots have no weight
+
+sum_beyond : (m n : ℕ) (f : ℕ → ℕ) → ((k : ℕ) → m ≤ k → k < n → f k ≡ 0) → m ≤ n → sum n f ≡ sum m f
+sum_beyond m n f z h =
+    let e : m + (n - m) ≡ n = omega arith in
+    let s = sum_split m (n - m) f in
+    let y = sum_zero (n - m) {f = λ k. f (m + k)} (λ k i. z (m + k) (omega arith) (omega arith)) in
+    ap (λ i. sum i f) (sym e) ∙ s ∙ omega (arith, y)
+
+sum_ℤ_more : (m d : ℕ) (f : ℕ → ℤ) → ((k : ℕ) → m ≤ k → k < m + d → f k ≡ pos 0) → sum_ℤ (m + d) f ≡ sum_ℤ m f
+sum_ℤ_more m zero f z = ap (λ i. sum_ℤ i f) (omega arith)
+sum_ℤ_more m (suc d) f z =
+    let e : m + suc d ≡ suc (m + d) = omega arith in
+    let l : sum_ℤ (m + d) f ≡ sum_ℤ m f = sum_ℤ_more m d f (λ k i j. z k i (omega arith)) in
+    let y : f (m + d) ≡ pos 0 = z (m + d) (omega arith) (omega arith) in
+    ap (λ i. sum_ℤ i f) e ∙ sum_ℤ-suc (m + d) f ∙ (let g : (sum_ℤ (m + d) f +ℤ f (m + d)) ≡ sum_ℤ m f = omega (arith, ints, l, y) in g)
+
+sum_ℤ_beyond : (m n : ℕ) (f : ℕ → ℤ) → ((k : ℕ) → m ≤ k → k < n → f k ≡ pos 0) → m ≤ n → sum_ℤ n f ≡ sum_ℤ m f
+sum_ℤ_beyond m n f z h =
+    let e : m + (n - m) ≡ n = omega arith in
+    ap (λ i. sum_ℤ i f) (sym e) ∙ sum_ℤ_more m (n - m) f (λ k i j. z k i (omega arith))
+
+module _ (t : Table) where
+  -- what a loop over them takes
+  pub taken : {rs : List Rect} (i : ℕ) → rs ≡ rects_of t → i < t.count → get_or rs i no_rect ≡ rect t i
+  taken i e h = ap (λ rs. get_or rs i no_rect) e ∙ get_or-take t.count t.rects i no_rect h
+
+  module _ {rs : List Rect} (items : rs ≡ rects_of t) (fits : length rs ≡ min t.count 16) where
+    light : (k : ℕ) → min t.count 16 ≤ k → k < t.count → (rect t k).weight ≡ pos 0
+    light k h l =
+        let f : length (rects_of t) ≡ min t.count 16 = sym (ap length items) ∙ fits in
+        let e = length-take t.count t.rects in
+        ap (λ r. r.weight) (get_or-eq_default t.rects no_rect {n = k} (omega arith))
+
+    pub area_slots : (part : ℤ → ℕ) → part (pos 0) ≡ 0 → area_sum part t.count (rect t) ≡ area_sum part (min t.count 16) (rect t)
+    unfolding area_sum
+    area_slots part z =
+        sum_beyond (min t.count 16) t.count (λ k. part (rect t k).weight * (rows_of (rect t k) * cols_of (rect t k)))
+        (λ k h l. ap (λ w. part w * (rows_of (rect t k) * cols_of (rect t k))) (light k h l) ∙ rw z (omega arith))
+        (omega arith)
+
+    pub grid_slots : (a b : ℕ) → grid_at t.count (rect t) a b ≡ grid_at (min t.count 16) (rect t) a b
+    unfolding grid_at
+    grid_slots a b =
+        sum_ℤ_beyond (min t.count 16) t.count (λ k. (rect t k).weight *ℤ pos (factor (rect t k) a b))
+        (λ k h l. ap (λ w. w *ℤ pos (factor (rect t k) a b)) (light k h l) ∙ ap pos (omega arith))
+        (omega arith)

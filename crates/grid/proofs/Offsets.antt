@@ -1,13 +1,7 @@
 -- Laws of covered offsets, on edges raised by 128 and on the places of a line.
 -- Assumes nothing.
-use Prim.Native.Nat.{ℕ, ◌+◌, ◌≤◌, ◌<◌}
-use native.Mathlib.Omega.{arith}
-use mathlib.Core.Path.{◌≡◌, sym, ap₂, ◌∙◌}
-use mathlib.Core.Bool.{◌&&◌}
-use lib.Dec.{ltb, leb, ltb→lt, leb→le, le→leb, lt→ltb}
-use lib.IntN.{ℤ}
-use lib.Signed.{le_z, lt_z}
-use Rattle.arith.specs.Diff.{Diff}
+use Rattle.std.proofs.Common.{ℕ, ◌+◌, ◌≤◌, ◌<◌, arith, ◌≡◌, sym, ap₂, ◌∙◌, ◌&&◌, ltb, leb, ltb→lt, leb→le, le→leb, lt→ltb, ℤ}
+use Rattle.std.specs.Int.Signed.{le_z, lt_z}
 use Rattle.arith.specs.Part.{pos_part, neg_part}
 use Rattle.arith.proofs.Bools.{bool_eq}
 use Rattle.arith.proofs.Ints.{diff_parts, diff_pos, diff_sub, diff_add, diff_pos_part, diff_le_z, diff_lt_z}
@@ -20,34 +14,6 @@ same_ltb p q r s f g = bool_eq (ltb p q) (ltb r s) (λ t. lt→ltb r s (f (ltb�
 
 same_leb : (p q r s : ℕ) → (p ≤ q → r ≤ s) → (r ≤ s → p ≤ q) → leb p q ≡ leb r s
 same_leb p q r s f g = bool_eq (leb p q) (leb r s) (λ t. le→leb r s (f (leb→le p q t))) (λ t. le→leb p q (g (leb→le r s t)))
-
--- an offset above a trail, and one not above a lead, both raised by 128
-pub above_raised : {trail : ℤ} {t : ℕ} → Diff trail t 128 → (a : ℕ) → lt_z trail (offset a) ≡ ltb t (a + 113)
-above_raised {trail} {t} e a = diff_lt_z e (diff_sub a 15) ∙ same_ltb (t + 15) (a + 128) t (a + 113) (λ h. omega arith) (λ h. omega arith)
-
-pub below_raised : {lead : ℤ} {l : ℕ} → Diff lead l 128 → (a : ℕ) → le_z (offset a) lead ≡ leb (a + 113) l
-below_raised {lead} {l} d a = diff_le_z (diff_sub a 15) d ∙ same_leb (a + 128) (l + 15) (a + 113) l (λ h. omega arith) (λ h. omega arith)
-
-module _ {lead trail : ℤ} {l t : ℕ} (d : Diff lead l 128) (e : Diff trail t 128) where
-  pub covers_raised : (a : ℕ) → covers lead trail (offset a) ≡ (ltb t (a + 113) && leb (a + 113) l)
-  unfolding covers
-  covers_raised a = ap₂ ◌&&◌ (above_raised e a) (below_raised d a)
-
--- an edge that lies below line a
-pub side_passed : {edge : ℤ} {e : ℕ} (a end : ℕ) → Diff edge e 128 → e ≤ a + 112 → SameSide edge a end
-side_passed {edge} {e} a end d k =
-    record {
-      above = λ c h i. above_raised d c ∙ same_ltb e (c + 113) e (a + 113) (λ l. omega arith) (λ l. omega arith) ∙ sym (above_raised d a);
-      below = λ c h i. below_raised d c ∙ same_leb (c + 113) e (a + 113) e (λ l. omega arith) (λ l. omega arith) ∙ sym (below_raised d a);
-    }
-
--- or at line end - 1 or above it
-pub side_ahead : {edge : ℤ} {e : ℕ} (a end : ℕ) → Diff edge e 128 → end + 112 ≤ e → SameSide edge a end
-side_ahead {edge} {e} a end d k =
-    record {
-      above = λ c h i. above_raised d c ∙ same_ltb e (c + 113) e (a + 113) (λ l. omega arith) (λ l. omega arith) ∙ sym (above_raised d a);
-      below = λ c h i. below_raised d c ∙ same_leb (c + 113) e (a + 113) e (λ l. omega arith) (λ l. omega arith) ∙ sym (below_raised d a);
-    }
 
 -- fewer lines
 pub side_within : {edge : ℤ} {a end : ℕ} (r : ℕ) → r ≤ end → SameSide edge a end → SameSide edge a r
@@ -82,3 +48,11 @@ below_placed z b h =
 pub covers_placed : (lead trail : ℤ) (b : ℕ) → b < 31 → covers lead trail (offset b) ≡ (leb (place_above trail) b && ltb b (place_above lead))
 unfolding covers
 covers_placed lead trail b h = ap₂ ◌&&◌ (above_placed trail b h) (below_placed lead b h)
+
+-- lines from a to end - 1 lie on one side of an edge whose place is not between them
+pub side_placed : (edge : ℤ) (a end : ℕ) → a < end → end ≤ 31 → (a < place_above edge → end ≤ place_above edge) → SameSide edge a end
+side_placed edge a end l m h =
+    record {
+      above = λ c i j. above_placed edge c (omega arith) ∙ same_leb (place_above edge) c (place_above edge) a (λ k. grind (arith, h)) (λ k. omega arith) ∙ sym (above_placed edge a (omega arith));
+      below = λ c i j. below_placed edge c (omega arith) ∙ same_ltb c (place_above edge) a (place_above edge) (λ k. omega arith) (λ k. grind (arith, h)) ∙ sym (below_placed edge a (omega arith));
+    }

@@ -8,7 +8,7 @@ use Rattle.arith.specs.Part.{pos_part, neg_part}
 use Rattle.layout.specs.declared.Rect.{Rect}
 use Rattle.layout.specs.declared.Table.{Table}
 use Rattle.layout.specs.Contents.{rect}
-use Rattle.grid.specs.declared.PartSums.{PartSums}
+use Rattle.grid.specs.declared.parts.PartSums.{PartSums}
 use Rattle.grid.specs.Grid.{offset, factor, grid_at}
 
 -- 2^25: a difference is held raised by it

@@ -1,36 +1,47 @@
 -- The rows that the edges reach.
 -- Assumes nothing.
-use Prim.Native.Nat.{ℕ, ◌+◌, ◌-◌, ◌≤◌, ◌<◌}
+use Prim.Native.Nat.{ℕ, ◌^◌, ◌≤◌, ◌<◌}
 use native.Mathlib.Omega.{arith}
-use mathlib.Core.Path.{◌≡◌, refl, sym, ap, ◌∙◌}
+use mathlib.Core.Path.{◌≡◌, refl, sym, ap, ◌∙◌, subst}
 use mathlib.Core.Bool.{Bool, true, false, cond}
 use lib.Dec.{eqb}
-use lib.IntN.{ℤ, pos, sub_ℕ, ◌+ℤ◌, ◌-ℤ◌}
+use lib.IntN.{ℤ, pos, negsuc, nat_abs}
+use lib.Signed.{mag}
+use lib.Dec.{T}
+use Rattle.std.specs.Prelude.{Result, Ok, Err, Some, None}
+use Rattle.std.specs.Option.{is_some}
+use Rattle.std.specs.Result.{OkIff, result_ok}
+use Rattle.std.specs.Int.{FitsUnsignedBits}
 use borrow.Author.Tests.{le-ltb, lt-ltb}
-use Rattle.arith.specs.Diff.{Diff}
-use Rattle.arith.proofs.Ints.{diff_pos, diff_sub, diff_add, diff_minus, diff_eq, sub_low, sub_high}
 use Rattle.histograms.specs.Arrivals.{is_given}
 use Rattle.histograms.specs.Edges.{EdgeOf, counted_sample}
 
--- the row that an edge reaches, where the edge is r - 128: one below 0, or row a + r - (d + 128)
-module _ (a d : ℕ) {z : ℤ} {r : ℕ} (h : Diff z r 128) where
-  is : sub_ℕ (a + r) (d + 128) ≡ (pos a -ℤ pos d) +ℤ z
-  is = diff_eq (diff_sub (a + r) (d + 128)) (diff_add (diff_minus (diff_pos a) (diff_pos d)) h) (omega arith)
-
-  pub edge_below : (given : ℕ) → a + r < d + 128 → EdgeOf given ((pos a -ℤ pos d) +ℤ z) 0 0
+-- the row that an edge reaches, as it is converted: one below 0 is none, and no other is lost
+module _ {X : Type 0} (given : ℕ) (e : ℤ) (r : Result ℕ X) (h : OkIff r (FitsUnsignedBits 64 e) (nat_abs e)) where
+  pub edge_below : mag e < 2 ^ 63 → None ≡ result_ok r → EdgeOf given e 0 0
   unfolding is_given
-  edge_below given p = rw (← is, sub_low (a + r) (d + 128) p) (record { often = refl; is = λ q. absurd (omega arith) })
+  edge_below m n = go e r h m n
+    where
+      go : (e : ℤ) (r : Result ℕ X) → OkIff r (FitsUnsignedBits 64 e) (nat_abs e) → mag e < 2 ^ 63 → None ≡ result_ok r → EdgeOf given e 0 0
+      go e (Ok x) h m n = absurd (subst T (sym (ap is_some n)) tt)
+      go (pos k) (Err y) h m n = absurd (h (omega arith))
+      go (negsuc k) (Err y) h m n = record { often = refl; is = λ q. absurd (omega arith) }
 
-  row_is : d + 128 ≤ a + r → (pos a -ℤ pos d) +ℤ z ≡ pos (a + r - (d + 128))
-  row_is p = sym is ∙ sub_high (a + r) (d + 128) p
+  pub row_is : (row : ℕ) → Some row ≡ result_ok r → e ≡ pos row
+  row_is row n = go e r h n
+    where
+      go : (e : ℤ) (r : Result ℕ X) → OkIff r (FitsUnsignedBits 64 e) (nat_abs e) → Some row ≡ result_ok r → e ≡ pos row
+      go (pos k) (Ok x) h n = let s : row ≡ x = cc in ap pos (sym (s ∙ h.1))
+      go (negsuc k) (Ok x) h n = absurd h.0
+      go e (Err y) h n = absurd (subst T (ap is_some n) tt)
 
-  pub edge_closing : (given : ℕ) → d + 128 ≤ a + r → given ≤ a + r - (d + 128) → EdgeOf given ((pos a -ℤ pos d) +ℤ z) 0 0
-  unfolding is_given
-  edge_closing given p q = rw (row_is p) (record { often = rw (le-ltb (a + r - (d + 128)) given q) refl; is = λ q. absurd (omega arith) })
+pub edge_closing : (given row : ℕ) {e : ℤ} → e ≡ pos row → given ≤ row → EdgeOf given e 0 0
+unfolding is_given
+edge_closing given row i q = rw i (record { often = rw (le-ltb row given q) refl; is = λ q. absurd (omega arith) })
 
-  pub edge_given : (given : ℕ) → d + 128 ≤ a + r → a + r - (d + 128) < given → EdgeOf given ((pos a -ℤ pos d) +ℤ z) 1 (a + r - (d + 128))
-  unfolding is_given
-  edge_given given p q = rw (row_is p) (record { often = rw (lt-ltb (a + r - (d + 128)) given q) refl; is = λ q. refl })
+pub edge_given : (given row : ℕ) {e : ℤ} → e ≡ pos row → row < given → EdgeOf given e 1 row
+unfolding is_given
+edge_given given row i q = rw i (record { often = rw (lt-ltb row given q) refl; is = λ q. refl })
 
 -- its sample, by how often it counts
 pub counted_by : {given : ℕ} {e : ℤ} {times row : ℕ} → EdgeOf given e times row → (f : ℤ → ℕ → ℕ) (c : ℕ) → counted_sample times (f (pos row)) c ≡ cond (is_given given e) (f e c) 0

@@ -16,7 +16,7 @@ use Rattle.limits.proofs.Bounds.{RectBounds, rect_bounds}
 use Rattle.levels.proofs.Ranks.{ranked_cong}
 use Rattle.histograms.specs.declared.Arrival.{Arrival}
 use Rattle.histograms.specs.declared.windows.Span.{Span}
-use Rattle.histograms.specs.Spans.{span_of, Zeros, SpanFits, Holds, Written}
+use Rattle.histograms.specs.Spans.{span_of, Zeros, SpanFits, BandFits, Holds, Written}
 use Rattle.histograms.specs.Parts.{ShowFits, Shown}
 use Rattle.histograms.proofs.Zero.{fewer_zeros}
 use Rattle.histograms.proofs.Slides.{slid_none, slid_window}
@@ -62,6 +62,9 @@ module _ (a : Arrival) {counts zeros windows : List ℕ} {out : ℕ} (f : ShowFi
         ranked = f.ranked;
         small = f.small;
       }
+
+  pub band_fits : BandFits span counts zeros
+  band_fits = record { span = span_fits; dark = zero_columns }
 
   pub holds_none : Holds span counts 0 windows
   holds_none =

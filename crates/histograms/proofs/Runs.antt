@@ -1,17 +1,16 @@
 -- A row is done by runs of pixels at which the columns that enter, and those that leave, lie all in the row or all outside it.
 -- Assumes nothing.
 use Prim.Native.Nat.{ℕ, ◌+◌, ◌-◌, ◌*◌, ◌≤◌, ◌<◌}
-use native.Mathlib.Nat.{le_refl, mul-le-mul_right}
+use native.Mathlib.Nat.{le_refl}
 use native.Mathlib.Omega.{arith}
-use mathlib.Core.Path.{◌≡◌, refl, sym, ap, ◌∙◌, subst}
-use mathlib.Core.Bool.{Bool, true, false, cond, not}
+use mathlib.Core.Path.{◌≡◌, refl, ap, ◌∙◌, subst}
 use mathlib.Core.Logic.{◌⊎◌, inl, inr}
 use mathlib.Core.List.{List, ◌++◌}
-use lib.Dec.{T}
 use lib.IntN.{ℤ, sub_ℕ}
 use lib.ListN.{length, get_or, set, drop, length-set, length-drop}
 use lib.Seq.{drop_at, get_or-drop}
 use borrow.Author.Tests.{lt-ltb, le-ltb}
+use Rattle.std.proofs.Common.{Bor}
 use Rattle.arith.specs.Tab.{tab}
 use Rattle.arith.proofs.Ints.{sub_low, sub_high}
 use Rattle.arith.proofs.Parts.{line_end_lem, part, part-tab}
@@ -49,44 +48,39 @@ module _ (s : Span) {counts zeros : List ℕ} (f : SpanFits s counts) (d : Zeros
   none_at k back u (inl h) = rw (sub_low k back h) refl
   none_at k back u (inr h) = rw (sub_high k back (omega arith), le-ltb (k - back) s.width (omega arith)) refl
 
-  -- a lane, by where it lies
-  module _ (k back : ℕ) (l : Lane) (h : LaneOf s.width k back l.count l) {line : List ℕ}
-      (e : line ≡ cond l.inside (drop l.at counts) zeros) where
-    in_line : (b : Bool) → b ≡ l.inside → (i : ℕ) → i < l.count → (i * l.step + s.levels ≤ length line)
-        × ((u : ℕ) → get_or line (i * l.step + u) 0 ≡ column_count counts s.width u (sub_ℕ (k + i) back))
-    in_line true t i m =
-        let g = h.inside (subst T t tt) in
-        let w : line ≡ drop ((k - back) * 256) counts = e ∙ ap (λ b. cond b (drop l.at counts) zeros) (sym t) ∙ ap (λ a. drop a counts) g.0 in
-        rw (w, g.1) (store_ends k back i l.count g.2 m g.3, store_at k back i l.count g.2 m g.3)
-    in_line false t i m =
-        let g = h.outside (subst (λ b. T (not b)) t tt) in
-        let w : line ≡ zeros = e ∙ ap (λ b. cond b (drop l.at counts) zeros) (sym t) in
-        let n = d.long in
-        let p = f.few in
-        rw (w, g.0) (omega arith, λ u. d.none (i * 0 + u) ∙ none_at (k + i) back u (g.1 i m))
+  -- a lane in the store, and one outside the row
+  pub lane_inside : (k back most n : ℕ) → back ≤ k → (1 ≤ most → 1 ≤ n) → n ≤ most → k + n ≤ s.width + back → {line : Bor (List ℕ)}
+      → line.now ≡ drop ((k - back) * 256) counts → LaneOf s counts k back most (record { line = line; step = 256; count = n })
+  lane_inside k back most n h some few l e =
+      record {
+        some = some;
+        few = few;
+        step_most = omega arith;
+        long = λ i m. rw e (store_ends k back i n h m l);
+        is = λ i u m. rw e (store_at k back i n h m l u);
+      }
 
-    pub lane_begins : T l.inside → l.at ≤ length counts
-    lane_begins t =
-        let g = h.inside t in
-        let a = g.0 in
-        let b = g.2 in
-        let c = g.3 in
-        let m : (k - back) * 256 ≤ s.width * 256 = mul-le-mul_right 256 (omega arith) in
-        let w = f.counts_long in
-        omega arith
+  pub lane_outside : (k back most n : ℕ) → (1 ≤ most → 1 ≤ n) → n ≤ most → ((i : ℕ) → i < n → (k + i < back) ⊎ (s.width + back ≤ k + i)) → {line : Bor (List ℕ)}
+      → line.now ≡ zeros → LaneOf s counts k back most (record { line = line; step = 0; count = n })
+  lane_outside k back most n some few out e =
+      record {
+        some = some;
+        few = few;
+        step_most = omega arith;
+        long = λ i m. rw e (let l = d.long in let p = f.few in omega arith);
+        is = λ i u m. rw e (d.none (i * 0 + u) ∙ none_at (k + i) back u (out i m));
+      }
 
-    pub lane_ends : (i : ℕ) → i < l.count → i * l.step + s.levels ≤ length line
-    lane_ends i m = (in_line l.inside refl i m).0
-
-    pub lane_is : (i at : ℕ) → i < l.count → k + i ≡ at
-        → part (i * l.step) s.levels line ≡ tab s.levels (λ u. column_count counts s.width u (sub_ℕ at back))
-    lane_is i at m q =
-        part-tab (i * l.step) s.levels line (lane_ends i m)
-        ∙ tab_cong s.levels (λ u p. (in_line l.inside refl i m).1 u ∙ ap (λ j. column_count counts s.width u (sub_ℕ j back)) q)
+-- the columns of a lane
+pub lane_is : (s : Span) {counts : List ℕ} {k back most : ℕ} {l : Lane} → LaneOf s counts k back most l → (i at : ℕ) → i < l.count → k + i ≡ at
+    → part (i * l.step) s.levels l.line.now ≡ tab s.levels (λ u. column_count counts s.width u (sub_ℕ at back))
+lane_is s {counts} {back = back} {l = l} h i at m q =
+    part-tab (i * l.step) s.levels l.line.now (h.long i m)
+    ∙ tab_cong s.levels (λ u p. h.is i u m ∙ ap (λ j. column_count counts s.width u (sub_ℕ j back)) q)
 
 -- a lane is no longer than it is
-pub lane_own : {width k back most : ℕ} {l : Lane} → LaneOf width k back most l → LaneOf width k back l.count l
-lane_own h = record { some = λ m. m; few = le_refl _; inside = h.inside; outside = h.outside }
+pub lane_own : {s : Span} {counts : List ℕ} {k back most : ℕ} {l : Lane} → LaneOf s counts k back most l → LaneOf s counts k back l.count l
+lane_own h = record { some = λ m. m; few = le_refl _; step_most = h.step_most; long = h.long; is = h.is }
 
 -- ---- a run of pixels
 

@@ -1,6 +1,6 @@
 -- The counts of a window as it slides along a row.
 -- Assumes nothing.
-use Prim.Native.Nat.{ℕ, suc, ◌+◌, ◌-◌, ◌≤◌, ◌<◌, zero-le}
+use Prim.Native.Nat.{ℕ, suc, ◌+◌, ◌≤◌, ◌<◌, zero-le}
 use native.Mathlib.Nat.{mul-le-mul, le_refl, le_of_eq}
 use native.Mathlib.Omega.{arith}
 use mathlib.Core.Path.{◌≡◌, refl, sym, ap, ◌∙◌}
@@ -22,7 +22,7 @@ use Rattle.layout.specs.Measure.{cols_of}
 use Rattle.limits.proofs.Bounds.{RectBounds, extent}
 use Rattle.rule.specs.Sums.{covered}
 use Rattle.levels.specs.Levels.{count_of, count_at, slid_count, ranked}
-use Rattle.levels.specs.Fits.{SlideFits, FindFits}
+use Rattle.levels.specs.Fits.{FindFits}
 use Rattle.levels.proofs.Ranks.{ranked_cong}
 use Rattle.histograms.specs.declared.windows.Span.{Span}
 use Rattle.histograms.specs.Windows.{column_count, window_count}
@@ -99,26 +99,42 @@ module _ (s : Span) {counts window off on : List ℕ} (f : SpanFits s counts) (k
   on_at : (u : ℕ) → u < s.levels → count_of on u ≡ framed counts s u (k + s.columns)
   on_at u l = ap (λ xs. get_or xs u 0) enters ∙ get_or-tab s.levels _ u 0 l ∙ sym (entering_is counts s k u)
 
-  pub slide_fits : SlideFits s.levels window off on
-  slide_fits =
-      record {
-        window_long = h.long;
-        off_long = le_of_eq (sym (ap length leaves ∙ length-tab s.levels _));
-        on_long = le_of_eq (sym (ap length enters ∙ length-tab s.levels _));
-        counted = λ u l. rw (off_at u l, h.each u l) (leaving_in counts s k u f.columns_some);
-        room = λ u l.
-            let m = slid_most counts s k u f.columns_most (λ j i. f.small j u i l) in
-            let n = column_most counts s.width u 31 (λ j i. f.small j u i l) (sub_ℕ (k + s.columns) (s.behind + s.columns)) in
-            rw (on_at u l, h.each u l) (omega arith);
-      }
+  abbrev lent : List ℕ
+  lent = take s.levels window
 
-  pub slide_leaves : tab s.levels (slid_count (count_of window) (count_of off) (count_of on)) ++ drop s.levels window ≡ tab s.levels (slid_to counts s (k + 1)) ++ drop s.levels window
-  slide_leaves =
+  lent_long : length lent ≡ s.levels
+  lent_long = length-take-le s.levels window h.long
+
+  lent_at : (u : ℕ) → u < s.levels → count_of lent u ≡ slid_to counts s k u
+  lent_at u l = get_or-take s.levels window u 0 l ∙ h.each u l
+
+  pub slide_off_long : length lent ≤ length off
+  slide_off_long = rw (lent_long, leaves) (le_of_eq (sym (length-tab s.levels _)))
+
+  pub slide_on_long : length lent ≤ length on
+  slide_on_long = rw (lent_long, enters) (le_of_eq (sym (length-tab s.levels _)))
+
+  pub slide_counted : (u : ℕ) → u < length lent → count_of off u ≤ count_of lent u
+  slide_counted u i =
+      let l : u < s.levels = rw lent_long at i in
+      rw (off_at u l, lent_at u l) (leaving_in counts s k u f.columns_some)
+
+  pub slide_room : (u : ℕ) → u < length lent → count_of lent u + count_of on u ≤ 65535
+  slide_room u i =
+      let l : u < s.levels = rw lent_long at i in
+      let m = slid_most counts s k u f.columns_most (λ j i. f.small j u i l) in
+      let n = column_most counts s.width u 31 (λ j i. f.small j u i l) (sub_ℕ (k + s.columns) (s.behind + s.columns)) in
+      rw (on_at u l, lent_at u l) (omega arith)
+
+  pub slide_leaves : {next : List ℕ} → next ≡ tab (length lent) (slid_count (count_of lent) (count_of off) (count_of on))
+      → next ++ drop s.levels window ≡ tab s.levels (slid_to counts s (k + 1)) ++ drop s.levels window
+  slide_leaves e =
       ap (λ xs. xs ++ drop s.levels window)
-      (tab_cong s.levels (λ u l.
+      (e ∙ ap (λ n. tab n (slid_count (count_of lent) (count_of off) (count_of on))) lent_long
+      ∙ tab_cong s.levels (λ u l.
       let a = off_at u l in
       let b = on_at u l in
-      let w = h.each u l in
+      let w = lent_at u l in
       let n = slid_next counts s k u in
       let i = leaving_in counts s k u f.columns_some in
       omega arith))
@@ -141,13 +157,13 @@ holds_list s {counts} {window} k h =
 -- ---- the level found in it
 
 module _ (s : Span) {counts window : List ℕ} (f : SpanFits s counts) (k : ℕ) (h : Holds s counts k window) where
-  part_is : (u : ℕ) → u < s.levels → count_of (take (s.levels - 0) window) u ≡ slid_to counts s k u
-  part_is u l = get_or-take (s.levels - 0) window u 0 (omega arith) ∙ h.each u l
+  part_is : (u : ℕ) → u < s.levels → count_of (take s.levels window) u ≡ slid_to counts s k u
+  part_is u l = get_or-take s.levels window u 0 l ∙ h.each u l
 
-  part_long : length (take (s.levels - 0) window) ≡ s.levels
-  part_long = let e : s.levels - 0 ≡ s.levels = omega arith in let l = h.long in length-take-le (s.levels - 0) window (omega arith) ∙ e
+  part_long : length (take s.levels window) ≡ s.levels
+  part_long = length-take-le s.levels window h.long
 
-  pub find_fits : FindFits (take (s.levels - 0) window) s.rank
+  pub find_fits : FindFits (take s.levels window) s.rank
   find_fits =
       let n = part_long in
       record {
@@ -159,5 +175,5 @@ module _ (s : Span) {counts window : List ℕ} (f : SpanFits s counts) (k : ℕ)
         ranked = f.ranked;
       }
 
-  pub found_is : ranked (length (take (s.levels - 0) window)) s.rank (count_of (take (s.levels - 0) window)) ≡ ranked s.levels s.rank (slid_to counts s k)
-  found_is = ap (λ n. ranked n s.rank (count_of (take (s.levels - 0) window))) part_long ∙ ranked_cong s.levels s.rank part_is
+  pub found_is : ranked (length (take s.levels window)) s.rank (count_of (take s.levels window)) ≡ ranked s.levels s.rank (slid_to counts s k)
+  found_is = ap (λ n. ranked n s.rank (count_of (take s.levels window))) part_long ∙ ranked_cong s.levels s.rank part_is

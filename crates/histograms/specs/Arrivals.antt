@@ -5,9 +5,7 @@ use Rattle.arith.specs.All.{all}
 use Rattle.arith.specs.Part.{pos_part}
 use Rattle.arith.specs.Tab.{tab, grid, paste, zeroed}
 use Rattle.layout.specs.declared.Rect.{Rect}
-use Rattle.layout.specs.declared.Verdict.{Verdict}
-use Rattle.layout.specs.declared.Verdict.TheVariants.{Accepted, Refused}
-use Rattle.layout.specs.Answers.{Question, asks, first_no}
+use Rattle.layout.specs.Answers.{Said, refused, accepted, Question, asks, first_no}
 use Rattle.layout.specs.Measure.{rows_of}
 use Rattle.limits.specs.Limits.{rect_good}
 use Rattle.ring.specs.Ring.{row_at}
@@ -83,22 +81,22 @@ shade_at v c = ranked (2 ^ v.what.b) v.what.rank (window_count (counts_after v) 
 unfoldable pub output_after : Counting → List ℤ → List ℤ
 output_after v out = cond (ltb v.what.number (delay_by v.what.rect)) out (tab v.what.width (shade_at v) ++ drop v.what.width out)
 
--- what an arrival leaves: the verdict, the stores and the output
+-- what an arrival leaves: what it says, the stores and the output
 pub record Leaves : Type 0 where
-  pub verdict : Verdict
+  pub said : Said
   pub samples : List ℕ
   pub counts : List ℕ
   pub windows : List ℕ
   pub out : List ℤ
 
-abbrev pub leaves : Verdict → (samples counts windows : List ℕ) → (out : List ℤ) → Leaves
-leaves verdict samples counts windows out = record { verdict = verdict; samples = samples; counts = counts; windows = windows; out = out }
+abbrev pub leaves : Said → (samples counts windows : List ℕ) → (out : List ℤ) → Leaves
+leaves said samples counts windows out = record { said = said; samples = samples; counts = counts; windows = windows; out = out }
 
 -- question 19: refused, all is as it was; accepted, the window counts are zero
 unfoldable pub arrive_of : Counting → (windows : List ℕ) → (out : List ℤ) → Leaves
 arrive_of v windows out =
-    first_no (arrival_asks v) (λ number place. leaves (Refused number place) v.samples v.counts windows out)
-    (leaves Accepted (samples_after v) (counts_after v) (zeroed 256 windows) (output_after v out))
+    first_no (arrival_asks v) (λ number place. leaves (refused number place) v.samples v.counts windows out)
+    (leaves (accepted []) (samples_after v) (counts_after v) (zeroed 256 windows) (output_after v out))
 
 -- ---- what an arrival asks of its caller, with the lengths of the window store and the output: at most 65,535 rows and 15 closing steps come before it
 

@@ -1,9 +1,18 @@
 -- What the functions on the edges of a window compute, and what they ask. The contract of an arrival uses none of this.
 -- Assumes nothing.
-use Rattle.std.specs.Prelude.{ℕ, ◌≤◌, ◌≡◌, cond, List, eqb, ℤ, pos, length}
+use Rattle.std.specs.Prelude.{ℕ, Option, Some, None, ◌≤◌, ◌≡◌, cond, List, eqb, ℤ, pos, length}
 use Rattle.ring.specs.Ring.{RingFits}
 use Rattle.histograms.specs.Arrivals.{is_given}
 use Rattle.histograms.specs.Spans.{Zeros}
+
+-- how often the row that is reached, if one is, counts, and which row it is
+abbrev pub times_of : Option ℕ → ℕ
+times_of None = 0
+times_of (Some row) = 1
+
+abbrev pub row_of : Option ℕ → ℕ
+row_of None = 0
+row_of (Some row) = row
 
 -- row e of `given` rows counts `times` times, and if it counts it is this row
 pub record EdgeOf (given : ℕ) (e : ℤ) (times row : ℕ) : Type 0 where

@@ -1,6 +1,6 @@
 -- What the functions that carry a window along a row compute, and what they ask. The contract of an arrival uses none of this.
 -- Assumes nothing.
-use Rattle.std.specs.Prelude.{ℕ, ◌+◌, ◌-◌, ◌*◌, ◌≤◌, ◌<◌, ◌≡◌, not, ◌⊎◌, List, ◌++◌, T, ℤ, length, get_or, drop}
+use Rattle.std.specs.Prelude.{ℕ, ◌+◌, ◌*◌, ◌≤◌, ◌<◌, ◌≡◌, List, ◌++◌, ℤ, length, get_or, drop}
 use Rattle.std.proofs.Math.IntN.{sub_ℕ}
 use Rattle.arith.specs.Part.{pos_part, neg_part}
 use Rattle.arith.specs.Sum.{sum}
@@ -33,11 +33,6 @@ pub record Zeros (n : ℕ) (zeros : List ℕ) : Type 0 where
   pub long : n ≤ length zeros
   pub none : (k : ℕ) → get_or zeros k 0 ≡ 0
 
-pub record ColumnFits (width levels counts : ℕ) (zeros : List ℕ) : Type 0 where
-  pub few : levels ≤ 256
-  pub counts_long : width * 256 ≤ counts
-  pub dark : Zeros 256 zeros
-
 -- counts of at most 31 in each column, and 1 to 31 columns
 pub record SpanFits (s : Span) (counts : List ℕ) : Type 0 where
   pub few : s.levels ≤ 256
@@ -50,24 +45,29 @@ pub record SpanFits (s : Span) (counts : List ℕ) : Type 0 where
   pub ranked : 1 ≤ s.rank
   pub small : (j u : ℕ) → j < s.width → u < s.levels → count_at counts j u ≤ 31
 
+-- such counts with zeros for the columns outside the row
+pub record BandFits (s : Span) (counts zeros : List ℕ) : Type 0 where
+  pub span : SpanFits s counts
+  pub dark : Zeros 256 zeros
+
 -- a window store that holds the counts of the window when k columns have entered
 pub record Holds (s : Span) (counts : List ℕ) (k : ℕ) (window : List ℕ) : Type 0 where
   pub long : s.levels ≤ length window
   pub each : (u : ℕ) → u < s.levels → count_of window u ≡ slid_to counts s k u
 
--- where column k - back stands at the first of `count` pixels, k + 1 - back at the second, and so on: in the store of counts, one after the
--- other, or nowhere, and then zeros are read
-pub record LaneOf (width k back most : ℕ) (l : Lane) : Type 0 where
+-- the counts of column k - back at the first of `count` pixels, of column k + 1 - back at the second, and so on
+pub record LaneOf (s : Span) (counts : List ℕ) (k back most : ℕ) (l : Lane) : Type 0 where
   pub some : 1 ≤ most → 1 ≤ l.count
   pub few : l.count ≤ most
-  pub inside : T l.inside → (l.at ≡ (k - back) * 256) × (l.step ≡ 256) × (back ≤ k) × (k + l.count ≤ width + back)
-  pub outside : T (not l.inside) → (l.step ≡ 0) × ((i : ℕ) → i < l.count → (k + i < back) ⊎ (width + back ≤ k + i))
+  pub step_most : l.step ≤ 256
+  pub long : (i : ℕ) → i < l.count → i * l.step + s.levels ≤ length l.line.now
+  pub is : (i u : ℕ) → i < l.count → get_or l.line.now (i * l.step + u) 0 ≡ column_count counts s.width u (sub_ℕ (k + i) back)
 
--- pixels from one on, of which the columns that enter and those that leave stand in lanes
-pub record RunOf (s : Span) (r : Run) : Type 0 where
+-- pixels from one on, with the lanes of the columns that enter and of those that leave
+pub record RunOf (s : Span) (counts : List ℕ) (r : Run) : Type 0 where
   pub in_row : r.from + r.count ≤ s.width
-  pub on : LaneOf s.width (r.from + s.ahead) s.behind r.on.count r.on
-  pub off : LaneOf s.width (r.from + s.ahead) (s.behind + s.columns) r.off.count r.off
+  pub on : LaneOf s counts (r.from + s.ahead) s.behind r.on.count r.on
+  pub off : LaneOf s counts (r.from + s.ahead) (s.behind + s.columns) r.off.count r.off
   pub on_long : r.count ≤ r.on.count
   pub off_long : r.count ≤ r.off.count
 

@@ -1,3 +1,4 @@
+pub mod Figures
 pub mod Answers
 pub mod Questions
 pub mod Sequences

@@ -1,23 +1,16 @@
 -- Questions: what an accepted call was answered, and two calls that ask the same.
 -- Assumes nothing.
-use Prim.Native.Nat.{ℕ}
-use mathlib.Core.Path.{◌≡◌, refl, sym, ap, subst, ◌∙◌}
-use mathlib.Core.Bool.{Bool, true, false, cond}
-use mathlib.Core.List.{List, [], ◌∷◌, ◌++◌}
-use lib.Dec.{T}
-use Rattle.layout.specs.declared.Verdict.{Verdict}
-use Rattle.layout.specs.declared.Verdict.TheVariants.{Accepted, Refused}
-use Rattle.layout.specs.Answers.{Question, first_no, verdict}
+use Rattle.std.proofs.Common.{ℕ, ◌≡◌, refl, sym, ap, subst, ◌∙◌, eqb, Bool, true, false, cond, List, [], ◌∷◌, ◌++◌, T}
+use Rattle.layout.specs.Answers.{Said, refused, accepted, Question, first_no, verdict}
 
 -- every question is answered yes
 abbrev pub AllYes : List Question → Type 0
 AllYes [] = Unit {0}
 AllYes (q ∷ qs) = (q.holds ≡ true) × AllYes qs
 
--- what holds at a verdict
-abbrev pub on_verdict : {A : Type 0} → Verdict → (refusal : (number place : ℕ) → A) → (accepted : A) → A
-on_verdict Accepted refusal accepted = accepted
-on_verdict (Refused number place) refusal accepted = refusal number place
+-- what holds at a verdict, by what it says
+abbrev pub on_verdict : {A : Type 0} → Said → (refusal : (number place : ℕ) → A) → (accepted : A) → A
+on_verdict s refusal accepted = cond (eqb s.kind 0) (refusal s.number s.place) accepted
 
 -- what a call comes to, by the verdict of its questions
 pub first_verdict : {A : Type 0} (qs : List Question) (f : ℕ → ℕ → A) (a : A) → first_no qs f a ≡ on_verdict (verdict qs) f a
@@ -25,7 +18,7 @@ first_verdict [] f a = refl
 first_verdict (q ∷ qs) f a = go q.holds (first_verdict qs f a)
   where
     go : (b : Bool) → first_no qs f a ≡ on_verdict (verdict qs) f a
-        → cond b (first_no qs f a) (f q.number q.place) ≡ on_verdict (cond b (verdict qs) (Refused q.number q.place)) f a
+        → cond b (first_no qs f a) (f q.number q.place) ≡ on_verdict (cond b (verdict qs) (refused q.number q.place)) f a
     go true e = e
     go false e = refl
 
@@ -42,8 +35,8 @@ first_yes no? (q ∷ qs) f a h e = go (first_yes no? qs f a h) q.holds refl e
     go later false y d = absurd (subst T (sym (h q.number q.place) ∙ d) tt)
 
 -- so was one whose verdict is accepted
-pub all_yes : (qs : List Question) → verdict qs ≡ Accepted → AllYes qs
-all_yes qs e = (first_yes (λ v. on_verdict v (λ n p. true) false) qs Refused Accepted (λ n p. refl) (ap (λ v. on_verdict v (λ n p. true) false) e)).0
+pub all_yes : (qs : List Question) → verdict qs ≡ accepted [] → AllYes qs
+all_yes qs e = (first_yes (λ v. on_verdict v (λ n p. true) false) qs refused (accepted []) (λ n p. refl) (ap (λ v. on_verdict v (λ n p. true) false) e)).0
 
 -- and a call whose questions are all answered yes is accepted
 pub all_accepted : {A : Type 0} (qs : List Question) (f : ℕ → ℕ → A) (a : A) → AllYes qs → first_no qs f a ≡ a

@@ -1,7 +1,6 @@
 -- Two engines that answer each call alike answer every list of calls alike.
 -- Assumes nothing.
-use mathlib.Core.Path.{◌≡◌, refl, ap₂}
-use mathlib.Core.List.{List, [], ◌∷◌}
+use Rattle.std.proofs.Common.{◌≡◌, refl, ap₂, List, [], ◌∷◌}
 use Rattle.layout.specs.Answers.{Left}
 use Rattle.layout.specs.Sequences.{reply_of, replies, ended}
 

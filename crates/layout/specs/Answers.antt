@@ -1,14 +1,14 @@
 -- What a call says, in the rules' numbers; its questions; and what it leaves.
 -- Assumes nothing.
-use Rattle.std.specs.Prelude.{ℕ, ◌-◌, Bool, cond, List, [], ◌∷◌, ltb, ℤ, pos}
+use Rattle.std.specs.Prelude.{ℕ, ◌-◌, Bool, cond, List, [], ◌∷◌, ltb, ℤ, pos, Result, Ok, Err}
 use Rattle.arith.specs.All.{all}
 use Rattle.arith.specs.First.{first_not}
-use Rattle.layout.specs.declared.Verdict.{Verdict}
-use Rattle.layout.specs.declared.Verdict.TheVariants.{Accepted, Refused}
+use Rattle.layout.specs.declared.asking.Refusal.{Refusal}
 use Rattle.layout.specs.declared.Answer.{Answer}
 use Rattle.layout.specs.declared.Answer.TheVariants.{Row, Waiting, Refused as RowRefused}
 use Rattle.layout.specs.declared.Closing.{Closing}
 use Rattle.layout.specs.declared.Closing.TheVariants.{Row as LateRow, Waiting as StillWaiting, Done, Refused as StepRefused}
+use Rattle.layout.specs.Questions.{number_of}
 
 -- ---- what a call says
 
@@ -32,10 +32,18 @@ waiting = record { kind = 2; number = 0; place = 0; values = [] }
 abbrev pub done : Said
 done = record { kind = 3; number = 0; place = 0; values = [] }
 
+-- a no, by the number of its question
+abbrev pub no_said : Refusal → Said
+no_said r = refused (number_of r.question) r.place
+
+-- an answer with a value or a no: what it says, by what its value says
+abbrev pub result_said : {A : Type 0} → (values : A → List ℤ) → Result A Refusal → Said
+result_said values (Ok x) = accepted (values x)
+result_said values (Err r) = no_said r
+
 -- a verdict, the answer to a row, and the answer to a closing step: a filtered row is said with its number
-abbrev pub said : Verdict → Said
-said Accepted = accepted []
-said (Refused number place) = refused number place
+abbrev pub said : Result (Unit {0}) Refusal → Said
+said v = result_said (λ x. []) v
 
 abbrev pub answer_said : Answer → Said
 answer_said (Row r) = accepted (pos r ∷ [])
@@ -72,9 +80,9 @@ abbrev pub first_no : {A : Type 0} → List Question → (refusal : (number plac
 first_no [] refusal accepted = accepted
 first_no (q ∷ qs) refusal accepted = cond q.holds (first_no qs refusal accepted) (refusal q.number q.place)
 
--- the verdict of questions, and what they say
-abbrev pub verdict : List Question → Verdict
-verdict qs = first_no qs Refused Accepted
+-- what the verdict of questions says
+abbrev pub verdict : List Question → Said
+verdict qs = first_no qs refused (accepted [])
 
 -- ---- what a call leaves
 

@@ -1,6 +1,6 @@
 -- What a table says, and the struct that holds it.
 -- Assumes nothing.
-use Rattle.std.specs.Prelude.{ℕ, List, [], length, get_or, pos}
+use Rattle.std.specs.Prelude.{ℕ, List, [], length, get_or, take, pos}
 use Rattle.arith.specs.Tab.{tab}
 use Rattle.layout.specs.declared.Rect.{Rect}
 use Rattle.layout.specs.declared.Table.{Table}
@@ -26,6 +26,10 @@ no_rects b q1 q2 q3 t w = record { b = b; q1 = q1; q2 = q2; q3 = q3; t = t; w = 
 -- rectangle k of a struct
 abbrev pub rect : Table → ℕ → Rect
 rect t k = get_or t.rects k no_rect
+
+-- the rectangles of a struct: its first `count` slots, all 16 of them at most
+abbrev pub rects_of : Table → List Rect
+rects_of t = take t.count t.rects
 
 -- what a struct says: slots from the count on are no part of it
 abbrev pub contents : Table → Contents

@@ -1,4 +1,5 @@
 pub mod Contents
 pub mod Measure
+pub mod Questions
 pub mod Answers
 pub mod Sequences

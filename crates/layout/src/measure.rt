@@ -1,72 +1,86 @@
-// The figures of a rectangle and of a table.
-ghost use Rattle.std.specs.Prelude.{◌≡◌, ◌≤◌, max, ◌-ℤ◌};
+//! The figures of a rectangle and of a table.
+ghost use Rattle.std.specs.Prelude.{◌≡◌, ◌≤◌, ◌-ℤ◌, length, min};
 ghost use Rattle.arith.specs.Part.{pos_part};
-ghost use Rattle.layout.specs.Measure.{rows_of, cols_of, column_word, window_word, delay_of};
 
 use crate::{Rect, Table};
-use arith::{biased_byte, least, log2_up, monus};
+use arith::log2_up;
 
-// M, the rows that a rectangle covers.
-pub fn rows(r: Rect) -> u32
-    ensures value { result ≡ rows_of r }
-    ensures upper_bound { result ≤ 255 }
-{
-    extent(r.leadrow, r.trailrow)
+impl Rect {
+    ghost use Rattle.layout.specs.Measure.{rows_of, cols_of};
+
+    /// M, the rows that it covers.
+    #[tactic(auto, unfolding(crate::specs::Measure::rows_of))]
+    pub fn rows(self) -> u32
+        ensures value { result ≡ rows_of self }
+        ensures upper_bound { result ≤ 255 }
+    {
+        extent(self.leadrow, self.trailrow)
+    }
+
+    /// N, the columns that it covers.
+    #[tactic(auto, unfolding(crate::specs::Measure::cols_of))]
+    pub fn columns(self) -> u32
+        ensures value { result ≡ cols_of self }
+        ensures upper_bound { result ≤ 255 }
+    {
+        extent(self.leadcol, self.trailcol)
+    }
 }
 
-// N, the columns that it covers.
-pub fn columns(r: Rect) -> u32
-    ensures value { result ≡ cols_of r }
-    ensures upper_bound { result ≤ 255 }
-{
-    extent(r.leadcol, r.trailcol)
-}
-
-// How far the lead is above the trail, or 0.
+/// How far the lead is above the trail, or 0.
 fn extent(lead: i8, trail: i8) -> u32
     ensures value { result ≡ pos_part (lead -ℤ trail) }
     ensures upper_bound { result ≤ 255 }
 {
-    monus(biased_byte(lead), biased_byte(trail))
+    (i32::from(lead) - i32::from(trail)).max(0) as u32
 }
 
-// The bits of a column sum before its cut.
-pub fn column_word(t: Table, r: Rect) -> u32
-    ensures { result ≡ column_word t r }
-{
-    let log = log2_up(rows(r) as usize);
-    monus(t.b as u32, t.q1 as u32) + log as u32
-}
+impl Table {
+    ghost use Rattle.layout.specs.Contents.{rects_of};
+    ghost use Rattle.layout.specs.Measure.{column_word, window_word, delay_of};
 
-// The bits of a window sum before its cut, 0 where that is negative.
-pub fn window_word(t: Table, r: Rect) -> u32
-    ensures { result ≡ window_word t r }
-{
-    let m = rows(r);
-    let n = columns(r);
-    let log = log2_up((m * n) as usize);
-    monus(t.b as u32 + log as u32, t.q1 as u32 + t.q2 as u32)
-}
-
-// D, the delay: the largest lead row, or 0 where none is positive.
-pub fn delay(t: Table) -> u32
-    ensures { result ≡ delay_of t }
-{
-    let n = least(t.count, 16);
-    let mut d = 0;
-    let mut k = 0;
-    while k < n {
-        let r = t.rects[k];
-        d = larger(d, r.leadrow);
-        k += 1;
+    /// The rectangles: the first `count` slots, or all where `count` is above 16.
+    pub fn rects(&self) -> &[Rect]
+        ensures items { result.now ≡ rects_of self.now }
+        ensures fits { length result.now ≡ min self.now.count 16 }
+    {
+        &self.rects[..self.count.min(16)]
     }
-    d
+
+    /// The bits of a column sum before its cut.
+    #[tactic(auto, unfolding(crate::specs::Measure::column_word))]
+    pub fn column_word(&self, r: Rect) -> u32
+        ensures { result ≡ column_word self.now r }
+    {
+        let log = log2_up(r.rows() as usize);
+        u32::from(self.b).saturating_sub(u32::from(self.q1)) + u32::from(log)
+    }
+
+    /// The bits of a window sum before its cut, 0 where that is negative.
+    #[tactic(auto, unfolding(crate::specs::Measure::window_word))]
+    pub fn window_word(&self, r: Rect) -> u32
+        ensures { result ≡ window_word self.now r }
+    {
+        let log = log2_up((r.rows() * r.columns()) as usize);
+        (u32::from(self.b) + u32::from(log)).saturating_sub(u32::from(self.q1) + u32::from(self.q2))
+    }
+
+    /// D, the delay: the largest lead row, or 0 where none is positive.
+    pub fn delay(&self) -> u32
+        ensures { result ≡ delay_of self.now }
+    {
+        let mut d = 0;
+        for r in self.rects() {
+            d = d.max(ahead(r.leadrow));
+        }
+        d
+    }
 }
 
-// The larger of d and a lead row.
-fn larger(d: u32, lead: i8) -> u32
-    ensures { result ≡ max d (pos_part lead) }
+/// How many rows a lead is ahead, 0 where it is negative.
+fn ahead(lead: i8) -> u32
+    ensures value { result ≡ pos_part lead }
+    ensures upper_bound { result ≤ 127 }
 {
-    let l = monus(biased_byte(lead), 128);
-    if d < l { l } else { d }
+    i32::from(lead).max(0) as u32
 }

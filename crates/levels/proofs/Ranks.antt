@@ -2,10 +2,13 @@
 -- Assumes nothing.
 use Prim.Native.Nat.{ℕ, zero, suc, ◌+◌, ◌≤◌, ◌<◌}
 use native.Mathlib.Omega.{arith}
+use native.Mathlib.Nat.{not-suc-le-zero}
 use mathlib.Core.Path.{◌≡◌, refl, sym, ap, ap₂, ◌∙◌}
 use mathlib.Core.Bool.{Bool, true, false, not, cond}
 use lib.Dec.{T, leb, ltb, eqb, lt→ltb, ltb→lt, nltb→le}
-use lib.IntN.{pos}
+use lib.IntN.{pos, negsuc}
+use mathlib.Core.Logic.{⊎_elim}
+use Rattle.std.proofs.lemmas.Bool.{cases_lt}
 use borrow.Author.Tests.{le-leb, lt-leb, le-ltb, ltb-false, eq-eqb, ne_eqb}
 use Rattle.arith.specs.Sum.{sum}
 use Rattle.arith.specs.First.{first_not}
@@ -21,6 +24,19 @@ highest_top v f h = rw (ne_eqb (f v) 0 (λ e. omega arith)) refl
 pub highest_below : (v : ℕ) (f : ℕ → ℕ) → f v ≡ 0 → highest (suc v) f ≡ highest v f
 unfolding highest
 highest_below v f e = rw (eq-eqb (f v) 0 e) refl
+
+-- no level counts
+pub highest_none : (n : ℕ) (f : ℕ → ℕ) → ((k : ℕ) → k < n → f k ≡ 0) → highest n f ≡ negsuc 0
+unfolding highest
+highest_none zero f h = refl
+highest_none (suc n) f h = highest_below n f (h n (omega arith)) ∙ highest_none n f (λ k l. h k (omega arith))
+
+-- v counts, and none above it
+pub highest_is : (n v : ℕ) (f : ℕ → ℕ) → v < n → 0 < f v → ((k : ℕ) → v < k → k < n → f k ≡ 0) → highest n f ≡ pos v
+highest_is zero v f l p h = absurd (not-suc-le-zero l)
+highest_is (suc n) v f l p h =
+    ⊎_elim (λ (q : v < n). highest_below n f (h n q (omega arith)) ∙ highest_is n v f q p (λ k i j. h k i (omega arith)))
+    (λ (q : n ≤ v). let e : v ≡ n = omega arith in rw (sym e) (highest_top v f p)) (cases_lt v n)
 
 module _ (f : ℕ → ℕ) (R : ℕ) where
   -- where n levels add up to less than the rank, each of them is below it

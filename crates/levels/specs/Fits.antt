@@ -28,14 +28,6 @@ pub record MoveFits (width : ℕ) (counts off : List ℕ) (less : ℕ) (on : Lis
   pub on_long : width ≤ length on
   pub each : (c : ℕ) → c < width → ChangeFits 256 (count_at counts c) (get_or off c 0) less (get_or on c 0) more
 
--- a window: what leaves is counted in it, and what enters has room
-pub record SlideFits (levels : ℕ) (window off on : List ℕ) : Type 0 where
-  pub window_long : levels ≤ length window
-  pub off_long : levels ≤ length off
-  pub on_long : levels ≤ length on
-  pub counted : (v : ℕ) → v < levels → count_of off v ≤ count_of window v
-  pub room : (v : ℕ) → v < levels → count_of window v + count_of on v ≤ 65535
-
 -- counts of which 16 add up within 16 bits
 abbrev pub SmallCounts : List ℕ → Type 0
 SmallCounts counts = (v : ℕ) → v < length counts → count_of counts v ≤ 4095

@@ -1,19 +1,17 @@
-// The counts of a window, slid on by a column.
-ghost use Rattle.std.specs.Prelude.{◌≡◌, ◌++◌, length, drop};
+//! The counts of a window, slid on by a column.
+ghost use Rattle.std.specs.Prelude.{◌≡◌, ◌+◌, ◌≤◌, ◌<◌, ℕ, length};
 ghost use Rattle.arith.specs.Tab.{tab};
 ghost use Rattle.levels.specs.Levels.{count_of, slid_count};
-ghost use Rattle.levels.specs.Fits.{SlideFits};
 
-// The counts of the first `levels` levels: those of the column that leaves are taken off, then those of the one that enters put on.
-pub fn slide(window: &mut [u16], off: &[u16], on: &[u16], levels: usize)
-    requires { SlideFits levels window.old off.now on.now }
-    ensures { window.new
-        ≡ tab levels (slid_count (count_of window.old) (count_of off.now) (count_of on.now))
-        ++ drop levels window.old }
+/// The counts of a window, by level: those of the column that leaves are taken off, then those of the one that enters put on.
+pub fn slide(window: &mut [u16], off: &[u16], on: &[u16])
+    requires off_long { length window.old ≤ length off.now }
+    requires on_long { length window.old ≤ length on.now }
+    requires counted { (v : ℕ) → v < length window.old → count_of off.now v ≤ count_of window.old v }
+    requires room { (v : ℕ) → v < length window.old → count_of window.old v + count_of on.now v ≤ 65535 }
+    ensures { window.new ≡ tab (length window.old) (slid_count (count_of window.old) (count_of off.now) (count_of on.now)) }
 {
-    let mut v = 0;
-    while v < levels {
-        window[v] = window[v] - off[v] + on[v];
-        v += 1;
+    for (v, count) in window.iter_mut().enumerate() {
+        *count = *count - off[v] + on[v];
     }
 }

@@ -1,14 +1,12 @@
 -- A loss figure, or its refusal, is known by what it says.
 -- Assumes nothing.
-use native.Mathlib.Omega.{arith}
-use mathlib.Core.Path.{◌≡◌, ap}
-use Rattle.layout.proofs.Answers.{same_refusal, same_natural}
-use Rattle.limits.specs.declared.figure.Figure.{Figure}
-use Rattle.limits.specs.declared.figure.Figure.TheVariants.{Loss, Refused}
+use Rattle.std.proofs.Common.{◌≡◌, ℕ, [], ◌∷◌, List, ℤ, pos, Result}
+use Rattle.layout.specs.declared.asking.Refusal.{Refusal}
+use Rattle.layout.proofs.Answers.{result_injective}
 use Rattle.limits.specs.Figures.{figure_said}
 
-pub figure_injective : (f g : Figure) → figure_said f ≡ figure_said g → f ≡ g
-figure_injective (Loss n) (Loss m) e = ap Loss (same_natural e)
-figure_injective (Loss n) (Refused m q) e = absurd (let z = ap (λ s. s.kind) e in omega arith)
-figure_injective (Refused n p) (Loss m) e = absurd (let z = ap (λ s. s.kind) e in omega arith)
-figure_injective (Refused n p) (Refused m q) e = same_refusal Refused e
+same_figure : (n m : ℕ) → ◌≡◌ {A = List ℤ} (pos n ∷ []) (pos m ∷ []) → n ≡ m
+same_figure n m e = cc
+
+pub figure_injective : (f g : Result ℕ Refusal) → figure_said f ≡ figure_said g → f ≡ g
+figure_injective f g e = result_injective (λ n. pos n ∷ []) same_figure f g e

@@ -1,16 +1,17 @@
 -- What verdicts tell of the questions that led to them.
 -- Assumes nothing.
-use Prim.Native.Nat.{ℕ, ◌≤◌}
-use native.Mathlib.Omega.{arith}
-use mathlib.Core.Path.{◌≡◌, refl, sym, subst}
-use mathlib.Core.Bool.{Bool, true, false, cond, ◌&&◌}
-use lib.Dec.{T, leb, ltb, leb→le, ltb→lt}
-use mir.Facts.{and_yes}
+use Rattle.std.proofs.Common.{ℕ, ◌≤◌, arith, ◌≡◌, refl, sym, ap, subst, Bool, true, false, ◌&&◌, [], ◌∷◌, T, leb, ltb, leb→le, ltb→lt}
+use Rattle.std.specs.Prelude.{Result, Ok, Err, is_ok}
+use Rattle.std.proofs.Math.Facts.{and_yes}
+use Rattle.std.proofs.Math.Bool.{and_assoc}
+use Rattle.arith.proofs.Bools.{true_of}
+use Rattle.layout.specs.Contents.{contents}
 use Rattle.layout.specs.declared.Table.{Table}
-use Rattle.layout.specs.declared.Verdict.TheVariants.{Accepted, Refused}
-use Rattle.limits.specs.Limits.{bits_good, drops_good, word_good, head_asks, fitting}
-use Rattle.layout.specs.Answers.{verdict}
-use Rattle.layout.proofs.Questions.{all_yes}
+use Rattle.limits.specs.Limits.{bits_good, drops_good, word_good, head_asks, value_good, fitting}
+use Rattle.layout.specs.Answers.{said, asks, verdict}
+use Rattle.layout.specs.Questions.{asked}
+use Rattle.layout.specs.declared.asking.Question.{Question as Kind}
+use Rattle.layout.specs.declared.asking.Refusal.{Refusal}
 use Rattle.limits.specs.Slots.{HeadGood}
 
 -- a header that questions 3 to 5 accept
@@ -19,21 +20,39 @@ pub record HeadTests (b q1 q2 q3 t w : ℕ) : Type 0 where
   pub drops : drops_good b q1 q2 q3 ≡ true
   pub word : word_good t w ≡ true
 
-pub head_accepted : (b q1 q2 q3 t w : ℕ) → verdict (head_asks b q1 q2 q3 t w) ≡ Accepted → HeadTests b q1 q2 q3 t w
-unfolding head_asks
-head_accepted b q1 q2 q3 t w e = let y = all_yes (head_asks b q1 q2 q3 t w) e in record { bits = y.0; drops = y.1.0; word = y.1.1.0 }
+pub head_tests : (b q1 q2 q3 t w : ℕ) → (bits_good b && (drops_good b q1 q2 q3 && word_good t w)) ≡ true → HeadTests b q1 q2 q3 t w
+head_tests b q1 q2 q3 t w e =
+    let x = and_yes (bits_good b) (drops_good b q1 q2 q3 && word_good t w) (subst T (sym e) tt) in
+    let y = and_yes (drops_good b q1 q2 q3) (word_good t w) x.1 in
+    record { bits = true_of _ x.0; drops = true_of _ y.0; word = true_of _ y.1 }
 
--- a header that they refuse fails one of them
-pub head_refused : (b q1 q2 q3 t w n p : ℕ) (rest : Bool) → verdict (head_asks b q1 q2 q3 t w) ≡ Refused n p
-    → (bits_good b && (drops_good b q1 q2 q3 && (word_good t w && rest))) ≡ false
+-- a header's verdict accepts it where questions 3 to 5 do
+pub head_is : (b q1 q2 q3 t w : ℕ) (v : Result (Unit {0}) Refusal) → said v ≡ verdict (head_asks b q1 q2 q3 t w)
+    → is_ok v ≡ (bits_good b && (drops_good b q1 q2 q3 && word_good t w))
 unfolding head_asks
-head_refused b q1 q2 q3 t w n p rest = go (bits_good b) (drops_good b q1 q2 q3) (word_good t w)
+head_is b q1 q2 q3 t w v e = go v (bits_good b) (drops_good b q1 q2 q3) (word_good t w) (ap (λ s. s.kind) e)
   where
-    go : (x y z : Bool) → cond x (cond y (cond z Accepted (Refused 5 0)) (Refused 4 0)) (Refused 3 0) ≡ Refused n p → (x && (y && (z && rest))) ≡ false
-    go true true true e = absurd (let z : ◌≡◌ {A = ℕ} 0 1 = cc in omega arith)
-    go true true false e = refl
-    go true false z e = refl
-    go false y z e = refl
+    go : (v : Result (Unit {0}) Refusal) (x y z : Bool) → (said v).kind ≡ (verdict (asks 3 x ∷ asks 4 y ∷ asks 5 z ∷ [])).kind
+        → is_ok v ≡ (x && (y && z))
+    go (Ok u) true true true e = refl
+    go (Ok u) true true false e = absurd (omega (arith, e))
+    go (Ok u) true false z e = absurd (omega (arith, e))
+    go (Ok u) false y z e = absurd (omega (arith, e))
+    go (Err r) true true true e = absurd (omega (arith, e))
+    go (Err r) true true false e = refl
+    go (Err r) true false z e = refl
+    go (Err r) false y z e = refl
+
+-- a question that is not refused is answered yes
+pub asked_yes : (q : Kind) (b : Bool) (u : Unit {0}) → asked q b ≡ Ok u → b ≡ true
+asked_yes q true u e = refl
+asked_yes q false u e = absurd (subst T (sym (ap is_ok e)) tt)
+
+-- question 10 is asked behind the header's and the count
+pub fitting_is : (t : Table)
+    → fitting t ≡ ((bits_good t.b && (drops_good t.b t.q1 t.q2 t.q3 && word_good t.t t.w)) && (leb t.count 16 && value_good (contents t)))
+unfolding fitting
+fitting_is t = grind (arith, and_assoc)
 
 -- the number of rectangles of a table that question 10 was asked of with yes
 pub fitting_few : (t : Table) → fitting t ≡ true → t.count ≤ 16

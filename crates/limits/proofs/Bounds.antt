@@ -1,13 +1,8 @@
 -- What question 8 says of a rectangle: its edges in a frame of 16, and how many rows and columns it covers.
 -- Assumes nothing.
-use Prim.Native.Nat.{ℕ, ◌+◌, ◌-◌, ◌≤◌, ◌<◌}
-use native.Mathlib.Omega.{arith}
-use mathlib.Core.Path.{◌≡◌, refl}
-use mathlib.Core.Bool.{◌&&◌}
-use lib.Dec.{T, leb→le, le→leb}
-use lib.IntN.{ℤ, pos, negsuc, ◌-ℤ◌}
-use lib.Signed.{le_z, lt_z, ◌≤ℤ◌}
-use mir.Facts.{and_yes}
+use Rattle.std.proofs.Common.{ℕ, ◌+◌, ◌-◌, ◌≤◌, ◌<◌, arith, ◌≡◌, refl, ◌&&◌, T, leb→le, le→leb, ℤ, pos, negsuc, ◌-ℤ◌, ◌≤ℤ◌}
+use Rattle.std.specs.Int.Signed.{le_z, lt_z}
+use Rattle.std.proofs.Math.Facts.{and_yes}
 use Rattle.arith.specs.Diff.{Diff}
 use Rattle.arith.specs.Part.{pos_part}
 use Rattle.arith.specs.Twos.{fits_signed}

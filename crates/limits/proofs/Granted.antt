@@ -1,11 +1,7 @@
 -- What a table that question 11 accepts is: the bounds on each of its numbers, for which question 10 is not needed.
 -- Assumes nothing.
-use Prim.Native.Nat.{ℕ, ◌≤◌, ◌<◌}
-use mathlib.Core.Path.{◌≡◌, refl, sym, subst}
-use mathlib.Core.Bool.{true, ◌&&◌}
-use lib.Dec.{T, leb, ltb, leb→le, ltb→lt}
-use mir.Facts.{and_yes}
-use borrow.Author.Tests.{le-leb}
+use Rattle.std.proofs.Common.{ℕ, ◌≤◌, ◌<◌, ◌≡◌, refl, sym, subst, true, ◌&&◌, T, leb, ltb, leb→le, ltb→lt, le-leb}
+use Rattle.std.proofs.Math.Facts.{and_yes}
 use Rattle.arith.specs.All.{all}
 use Rattle.arith.specs.Twos.{fits_signed}
 use Rattle.arith.proofs.Alls.{all_at}

@@ -1,4 +1,3 @@
-pub mod Edges
 pub mod Bounds
 pub mod Values
 pub mod Asked

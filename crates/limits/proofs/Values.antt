@@ -1,34 +1,27 @@
 -- The questions on a table's contents, asked of the struct's slots.
 -- Assumes nothing.
-use Prim.Native.Nat.{ℕ, ◌+◌, ◌-◌, ◌*◌, ◌/◌, ◌^◌, ◌≤◌, ◌<◌}
-use native.Mathlib.Nat.{le_trans, lt_of_le_of_lt, mul-le-mul, mul-le-mul_left}
-use mathlib.Core.Path.{◌≡◌, refl, sym, ap, ap₂, ◌∙◌, subst}
-use mathlib.Core.Bool.{Bool, true, false, cond, ◌&&◌}
-use lib.Dec.{T, leb, ltb, eqb, leb→le, ltb→lt, eqb→eq, le→leb, lt→ltb}
-use borrow.Author.Tests.{eq-eqb}
-use native.Mathlib.Omega.{arith}
-use mir.Facts.{and_yes, yes_and}
+use Rattle.std.proofs.Common.{ℕ, ◌+◌, ◌-◌, ◌*◌, ◌/◌, ◌^◌, ◌≤◌, ◌<◌, le_trans, lt_of_le_of_lt, mul-le-mul, mul-le-mul_left, ◌≡◌, refl, sym, ap, ap₂, ◌∙◌, subst, Bool, true, false, cond, ◌&&◌, T, leb, ltb, eqb, leb→le, ltb→lt, eqb→eq, le→leb, lt→ltb, eq-eqb, arith, pow-add, pow_mono, length, get_or, ℤ, All, ◌↔◌, FitsSigned, w16}
+use Rattle.std.proofs.Math.Facts.{and_yes, yes_and}
+use Rattle.std.proofs.Math.Pow.{shr_mono}
+use Rattle.std.proofs.lemmas.List.{get_or-take, length-take-le}
+use Rattle.std.proofs.lemmas.List.Elements.{All-get_or, All-from_get_or}
 use mir.Syntax.{w64}
 use mir.Val.{Fits}
 use Rattle.arith.proofs.Bools.{bool_eq, true_of}
-use lib.Pow.{pow-add, pow_mono, shr_mono}
-use lib.ListN.{length, get_or}
-use lib.IntN.{ℤ}
 use Rattle.arith.specs.All.{all}
 use Rattle.arith.specs.Part.{pos_part, neg_part}
 use Rattle.arith.specs.Twos.{fits_signed}
-use Rattle.arith.proofs.Alls.{all_cong}
-use Rattle.arith.proofs.Words.{floor_fits_pos, floor_fits_neg}
+use Rattle.arith.proofs.Alls.{all_cong, all_of, all_at}
+use Rattle.arith.proofs.Words.{floor_fits_pos, floor_fits_neg, mag_fits}
 use Rattle.arith.proofs.Tabs.{length-tab, get_or-tab}
 use Rattle.layout.specs.declared.Rect.{Rect}
 use Rattle.layout.specs.declared.Table.{Table}
-use Rattle.layout.specs.Contents.{Contents, contents, rect, no_rect}
+use Rattle.layout.specs.Contents.{Contents, contents, rect, rects_of, no_rect}
 use Rattle.grid.specs.Grid.{area_sum, sum_most, grid_sum}
 use Rattle.grid.proofs.Entries.{area_cong, grid_cong}
 use Rattle.grid.proofs.Below.{grid_below_high, grid_below_low}
-use Rattle.limits.specs.Limits.{bits_good, drops_good, word_good, rect_good, no_drops, extreme}
-use Rattle.limits.specs.Limits.{extremes_fit, value_good, areas_good, shaped, within, fitting, acceptable}
-use Rattle.limits.specs.Slots.{slot_good, areas_fit}
+use Rattle.limits.specs.Limits.{bits_good, drops_good, word_good, rect_good, no_drops, extreme, extremes_fit, value_good, areas_good, shaped, within, fitting, acceptable}
+use Rattle.limits.specs.Slots.{sound, slot_good, areas_fit}
 
 -- an extreme, of the slots
 abbrev pub slot_extreme : (part : ℤ → ℕ) → Table → ℕ
@@ -87,6 +80,25 @@ acceptable_asked t =
     ap (λ s. s && value_good (contents t)) (shaped_slots t)
     ∙ regroup (bits_good t.b) (drops_good t.b t.q1 t.q2 t.q3) (word_good t.t t.w) (leb 1 t.count) (leb t.count 16)
     (all t.count (slot_good t)) (value_good (contents t))
+
+-- a weight of 16 bits
+pub weight_fits : (z : ℤ) → FitsSigned w16 z → fits_signed 16 z ≡ true
+weight_fits z f = true_of (fits_signed 16 z) (mag_fits 16 z f.sfits)
+
+-- a struct's slots, from what is asked of its rectangles
+pub slots_asked : (t : Table) (b : Bool) → t.count ≤ 16 → length t.rects ≡ 16 → (b ≡ true ↔ All (λ r. sound r ≡ true) (rects_of t))
+    → b ≡ all t.count (slot_good t)
+slots_asked t b few full asked =
+    bool_eq b (all t.count (slot_good t))
+    (λ y. all_of t.count (slot_good t) (λ k h.
+    let good = All-get_or (λ r. sound r ≡ true) (rects_of t) k no_rect (omega (arith, h, long)) (asked.0 (true_of _ y)) in
+    subst T (sym (ap sound (sym (get_or-take t.count t.rects k no_rect h)) ∙ good)) tt))
+    (λ y. subst T (sym (asked.1 (All-from_get_or (λ r. sound r ≡ true) (rects_of t) no_rect (λ k h.
+    let l : k < t.count = omega (arith, h, long) in
+    ap sound (get_or-take t.count t.rects k no_rect l) ∙ true_of _ (all_at t.count (slot_good t) y k l))))) tt)
+  where
+    long : length (rects_of t) ≡ t.count
+    long = length-take-le t.count t.rects (omega (arith, few, full))
 
 -- ---- question 10
 

@@ -1,3 +1,4 @@
 pub mod Limits
+pub mod Headers
 pub mod Slots
 pub mod Figures

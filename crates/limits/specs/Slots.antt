@@ -3,14 +3,19 @@
 use Rattle.std.specs.Prelude.{ℕ, ◌-◌, ◌*◌, ◌^◌, ◌≤◌, ◌≡◌, Bool, true, ◌&&◌}
 use Rattle.arith.specs.Part.{pos_part, neg_part}
 use Rattle.arith.specs.Twos.{fits_signed}
+use Rattle.layout.specs.declared.Rect.{Rect}
 use Rattle.layout.specs.declared.Table.{Table}
 use Rattle.layout.specs.Contents.{rect}
 use Rattle.grid.specs.Grid.{area_sum}
 use Rattle.limits.specs.Limits.{word_good, rect_good, extremes_fit}
 
--- rectangle k passes question 8, and its weight has 16 bits
+-- a rectangle passes question 8, and its weight has 16 bits
+abbrev pub sound : Rect → Bool
+sound r = rect_good r && fits_signed 16 r.weight
+
+-- rectangle k does
 abbrev pub slot_good : Table → ℕ → Bool
-slot_good t k = rect_good (rect t k) && fits_signed 16 (rect t k).weight
+slot_good t k = sound (rect t k)
 
 -- a header within the limits of questions 3 and 5
 pub record HeadGood (t : Table) : Type 0 where

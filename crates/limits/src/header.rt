@@ -1,49 +1,75 @@
-// The questions on a header.
+//! The questions on a header.
 ghost use Rattle.std.specs.Prelude.{◌≡◌};
-ghost use Rattle.layout.specs.Answers.{verdict};
-ghost use Rattle.limits.specs.Limits.{bits_good, drops_good, word_good, head_asks};
+ghost use Rattle.limits.specs.Limits.{bits_good, drops_good, word_good};
 
-use layout::Verdict;
+use layout::{Question, Refusal, Table};
 
-// Question 3.
+/// The numbers of a header: b bits a sample, drops q1, q2 and q3, shift t, and the pixel word of w bits.
+#[derive(Clone, Copy, Debug, PartialEq, Eq)]
+pub struct Header {
+    pub b: u8,
+    pub q1: u8,
+    pub q2: u8,
+    pub q3: u8,
+    pub t: u8,
+    pub w: u8,
+}
+
+impl Header {
+    ghost use Rattle.layout.specs.Answers.{said, verdict};
+    ghost use Rattle.limits.specs.Limits.{head_asks};
+
+    /// Questions 3 to 5.
+    #[tactic(auto, unfolding(crate::specs::Limits::head_asks))]
+    pub fn ask(self) -> Result<(), Refusal>
+        ensures { said result ≡ verdict (head_asks self.b self.q1 self.q2 self.q3 self.t self.w) }
+    {
+        Refusal::unless(bits_good(self.b), Question::Bits)?;
+        Refusal::unless(
+            drops_good(self.b, self.q1, self.q2, self.q3),
+            Question::Drops,
+        )?;
+        Refusal::unless(word_good(self.t, self.w), Question::Word)
+    }
+}
+
+impl From<Table> for Header {
+    ghost use Rattle.limits.specs.Headers.{header_of};
+
+    ghost from_gives = { λ t h. h ≡ header_of t };
+
+    fn from(t: Table) -> Header {
+        Header {
+            b: t.b,
+            q1: t.q1,
+            q2: t.q2,
+            q3: t.q3,
+            t: t.t,
+            w: t.w,
+        }
+    }
+}
+
+/// Question 3.
+#[tactic(auto, unfolding(crate::specs::Limits::bits_good))]
 pub fn bits_good(b: u8) -> bool
     ensures { result ≡ bits_good b }
 {
-    if 1 <= b { b <= 12 } else { false }
+    (1..=12).contains(&b)
 }
 
-// Question 4.
+/// Question 4.
+#[tactic(auto, unfolding(crate::specs::Limits::drops_good))]
 pub fn drops_good(b: u8, q1: u8, q2: u8, q3: u8) -> bool
     ensures { result ≡ drops_good b q1 q2 q3 }
 {
-    if b <= q1 {
-        return false;
-    }
-    if q2 <= 8 { q3 <= 8 } else { false }
+    q1 < b && q2 <= 8 && q3 <= 8
 }
 
-// Question 5.
+/// Question 5.
+#[tactic(auto, unfolding(crate::specs::Limits::word_good))]
 pub fn word_good(t: u8, w: u8) -> bool
     ensures { result ≡ word_good t w }
 {
-    if 31 < t {
-        return false;
-    }
-    if 8 <= w { w <= 32 } else { false }
-}
-
-// Questions 3 to 5, on a header's numbers.
-pub fn head(b: u8, q1: u8, q2: u8, q3: u8, t: u8, w: u8) -> Verdict
-    ensures { result ≡ verdict (head_asks b q1 q2 q3 t w) }
-{
-    if !bits_good(b) {
-        return Verdict::Refused(3, 0);
-    }
-    if !drops_good(b, q1, q2, q3) {
-        return Verdict::Refused(4, 0);
-    }
-    if !word_good(t, w) {
-        return Verdict::Refused(5, 0);
-    }
-    Verdict::Accepted
+    t <= 31 && (8..=32).contains(&w)
 }

@@ -1,12 +1,11 @@
-// The table listing: reads a table file from standard input and prints what it holds, or the number of the
-// refusal. No more bytes are read than loading needs. Where they cannot be read, a line on standard error says so, and what came is
-// listed.
+//! The table listing: reads a table file from standard input and prints what it holds, or the number of the
+//! refusal. No more bytes are read than loading needs. Where they cannot be read, a line on standard error says so, and what came is
+//! listed.
 #![tactic(auto)]
 
-mod cells;
 mod lines;
 
-use streams::{fail, gather, put};
+use streams::{fail, gather, print};
 
 fn main(rt: HostRuntime) {
     let mut errors = rt.stderr();
@@ -16,8 +15,6 @@ fn main(rt: HostRuntime) {
     if let Some(why) = &got.failed {
         fail(&mut errors, b"standard input", why);
     }
-    let n = got.end;
-    let mut page = [0u8; 4096];
-    let end = lines::list(&input[..n], &mut page);
-    put(&mut rt.stdout(), &mut errors, &page[..end]);
+    let listing = lines::list(&input[..got.end]);
+    print(rt.alloc(), &mut rt.stdout(), &mut errors, &listing);
 }

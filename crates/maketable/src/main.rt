@@ -1,20 +1,32 @@
-// maketable [TEXT] > TABLE: makes a table file from its text: the file that the word names, or standard input. A refusal, or an input
-// that cannot be read, is a line on standard error, and nothing is written.
+//! maketable [TEXT] > TABLE: makes a table file from its text: the file that the word names, or standard input. A refusal, or an input
+//! that cannot be read, is a line on standard error, and nothing is written.
 #![tactic(auto)]
 
+use faults::Fault;
+use std::alloc::Global;
 use std::io::Write;
 use streams::{put, refuse};
-use table::Written;
 
-// Makes the table file of this text. The longest has 153 bytes.
-fn make<O: Write, E: Write>(output: &mut O, errors: &mut E, text: &[u8], name: &[u8]) {
+/// Makes the table file of this text. The longest has 153 bytes.
+fn make<O: Write, E: Write>(
+    alloc: Global,
+    output: &mut O,
+    errors: &mut E,
+    text: &[u8],
+    name: &[u8],
+) {
     let mut page = [0u8; 153];
-    let w = making::make(text, &mut page);
-    match w {
-        Written::Length(n) => {
+    match making::make(text, &mut page) {
+        Ok(n) => {
             put(output, errors, &page[..n]);
         }
-        Written::Refused(number, place) => refuse(errors, name, place, number),
+        Err(why) => {
+            let fault = Fault {
+                place: why.place(),
+                number: why.number(),
+            };
+            refuse(alloc, errors, name, fault);
+        }
     }
 }
 
@@ -37,7 +49,11 @@ fn main(rt: HostRuntime) {
     if from.failed {
         return;
     }
-    let n = from.end;
-    let m = from.name;
-    make(&mut rt.stdout(), &mut errors, &text[..n], &name[..m]);
+    make(
+        rt.alloc(),
+        &mut rt.stdout(),
+        &mut errors,
+        &text[..from.end],
+        &name[..from.name],
+    );
 }

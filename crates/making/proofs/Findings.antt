@@ -1,86 +1,106 @@
--- The lines of a kind, a line at a time.
+-- The lines of a text, and those of a kind.
 -- Assumes nothing.
-use Prim.Native.Nat.{ℕ, suc, ◌+◌, ◌-◌, ◌≤◌, ◌<◌}
-use native.Mathlib.Omega.{arith}
-use mathlib.Core.Path.{◌≡◌, refl, sym, ap, ◌∙◌}
-use mathlib.Core.Bool.{cond}
-use mathlib.Core.List.{List, [], ◌∷◌}
-use lib.ListN.{length, take, drop}
-use borrow.Author.Tests.{eq-eqb, ne_eqb}
-use Rattle.text.specs.Ascii.{line_length, after_line}
-use Rattle.words.specs.Words.{words_of, lines_of}
-use Rattle.words.proofs.Lines.{lines_on, lines_none, lines_forth}
-use Rattle.forms.specs.Forms.{kind_of}
+use Rattle.std.proofs.Common.{◌≡◌, ℕ, Option, Some, None, suc, ◌+◌, ◌≤◌, Bool, true, false, cond, eqb, List, [], ◌∷◌, ◌++◌, length, refl, sym, ap, ap₂, ◌∙◌, arith, length-append}
+use Rattle.std.specs.Option.{option_eq}
+use Rattle.forms.specs.contracts.kinds.KindPartialEq.TheImpl.{eq-value}
+use Rattle.forms.specs.declared.kinds.Kind.{Kind}
+use Rattle.forms.specs.declared.kinds.Kind.TheVariants.{Bits, Drops, Shift, Word, Rectangle}
+use Rattle.words.specs.Words.{ended, words_of, lines_from, words_of_each, lines_of}
+use Rattle.forms.specs.Forms.{kind_of, kind_number, kind_said}
 use Rattle.making.specs.Making.{line, of_kind}
-use Rattle.making.specs.Steps.{Finds}
 
-module _ (kind place : ℕ) (words : List (List ℕ)) (lines : List (List (List ℕ))) where
-  pub kind_hit : kind_of words ≡ kind → of_kind kind place (words ∷ lines) ≡ line place words ∷ of_kind kind (suc place) lines
+-- ---- lines
+
+each_length : (ls : List (List ℕ)) → length (words_of_each ls) ≡ length ls
+unfolding words_of_each
+each_length [] = refl
+each_length (l ∷ ls) = ap suc (each_length ls)
+
+lines_count : (line text : List ℕ) → length (lines_from line text) ≤ length line + length text
+unfolding lines_from ended
+lines_count [] [] = omega arith
+lines_count (a ∷ line) [] = omega arith
+lines_count line (b ∷ text) = go (eqb b 10) (lines_count [] text) (lines_count (line ++ (b ∷ [])) text)
+  where
+    go : (c : Bool) → length (lines_from [] text) ≤ 0 + length text
+        → length (lines_from (line ++ (b ∷ [])) text) ≤ length (line ++ (b ∷ [])) + length text
+        → length (cond c (line ∷ lines_from [] text) (lines_from (line ++ (b ∷ [])) text)) ≤ length line + suc (length text)
+    go true h k = omega arith
+    go false h k = let l = length-append line (b ∷ []) in omega arith
+
+-- there are no more lines than bytes
+pub lines_few : (text : List ℕ) → length (lines_of text) ≤ length text
+unfolding lines_of
+lines_few text = let a = each_length (lines_from [] text) in let b = lines_count [] text in omega arith
+
+module _ (text : List ℕ) where
+  pub lines_end : lines_from [] text ≡ [] → lines_of text ≡ []
+  unfolding lines_of words_of_each
+  lines_end e = ap words_of_each e
+
+  pub lines_more : (l rest : List ℕ) → lines_from [] text ≡ l ∷ lines_from [] rest → lines_of text ≡ words_of l ∷ lines_of rest
+  unfolding lines_of words_of_each
+  lines_more l rest e = ap words_of_each e
+
+-- ---- the lines of a kind
+
+module _ (kind place : ℕ) (ls : List (List (List ℕ))) where
+  pub kind_end : ls ≡ [] → of_kind kind place ls ≡ []
   unfolding of_kind
-  kind_hit e = rw (eq-eqb (kind_of words) kind e) refl
+  kind_end e = ap (of_kind kind place) e
 
-  pub kind_miss : (kind_of words ≡ kind → ⊥) → of_kind kind place (words ∷ lines) ≡ of_kind kind (suc place) lines
-  unfolding of_kind
-  kind_miss e = rw (ne_eqb (kind_of words) kind e) refl
+  module _ (words : List (List ℕ)) (lines : List (List (List ℕ))) (is : ls ≡ words ∷ lines) where
+    pub kind_hit : eqb (kind_of words) kind ≡ true → of_kind kind place ls ≡ line place words ∷ of_kind kind (suc place) lines
+    unfolding of_kind
+    kind_hit e = ap (of_kind kind place) is ∙ hit e
+      where
+        hit : eqb (kind_of words) kind ≡ true → of_kind kind place (words ∷ lines) ≡ line place words ∷ of_kind kind (suc place) lines
+        hit e = rw e refl
 
--- what is left to look through has the same lines of the kind
-pub record Passed (text : List ℕ) (kind from place at k : ℕ) : Type 0 where
-  pub forth : from ≤ at
-  pub within : at ≤ length text
-  pub first : 1 ≤ k
-  pub low : k ≤ at + 1
-  pub same : of_kind kind k (lines_of (drop at text)) ≡ of_kind kind place (lines_of (drop from text))
+    pub kind_miss : eqb (kind_of words) kind ≡ false → of_kind kind place ls ≡ of_kind kind (suc place) lines
+    unfolding of_kind
+    kind_miss e = ap (of_kind kind place) is ∙ miss e
+      where
+        miss : eqb (kind_of words) kind ≡ false → of_kind kind place (words ∷ lines) ≡ of_kind kind (suc place) lines
+        miss e = rw e refl
 
-module _ {text : List ℕ} {kind from place at k : ℕ} (p : Passed text kind from place at k) where
-  module _ (end next : ℕ) (more : at < length text) (e : end ≡ at + line_length (drop at text)) (l : end ≤ length text)
-      (n : drop next text ≡ after_line (drop at text)) (m : next ≤ length text) where
-    -- the line is of the kind
-    pub hit : kind_of (words_of (take (end - at) (drop at text))) ≡ kind → Finds text kind from place k at end next
-    hit h =
-        let f = lines_forth text at next more n in
-        let a = p.forth in
-        let b = p.first in
-        let o = p.low in
-        record {
-          is = sym p.same ∙ ap (of_kind kind k) (lines_on text at end next more e n) ∙ kind_hit kind k _ _ h
-              ∙ sym (ap (λ c. cond c [] (line k (words_of (take (end - at) (drop at text))) ∷ of_kind kind (suc k) (lines_of (drop next text))))
-              (ne_eqb k 0 (λ z. omega arith)));
-          none = λ z. absurd (omega arith);
-          forth = omega arith;
-          within = l;
-          past = omega arith;
-          on = λ z. omega arith;
-          most = m;
-          low = omega arith;
-        }
+-- two kinds are the same where their numbers are
+pub kind_is : (o : Option Kind) (k : Kind) → option_eq (eq-value).it o (Some k) ≡ eqb (kind_said o) (kind_number k)
+kind_is None Bits = refl
+kind_is None Drops = refl
+kind_is None Shift = refl
+kind_is None Word = refl
+kind_is None Rectangle = refl
+kind_is (Some Bits) Bits = refl
+kind_is (Some Bits) Drops = refl
+kind_is (Some Bits) Shift = refl
+kind_is (Some Bits) Word = refl
+kind_is (Some Bits) Rectangle = refl
+kind_is (Some Drops) Bits = refl
+kind_is (Some Drops) Drops = refl
+kind_is (Some Drops) Shift = refl
+kind_is (Some Drops) Word = refl
+kind_is (Some Drops) Rectangle = refl
+kind_is (Some Shift) Bits = refl
+kind_is (Some Shift) Drops = refl
+kind_is (Some Shift) Shift = refl
+kind_is (Some Shift) Word = refl
+kind_is (Some Shift) Rectangle = refl
+kind_is (Some Word) Bits = refl
+kind_is (Some Word) Drops = refl
+kind_is (Some Word) Shift = refl
+kind_is (Some Word) Word = refl
+kind_is (Some Word) Rectangle = refl
+kind_is (Some Rectangle) Bits = refl
+kind_is (Some Rectangle) Drops = refl
+kind_is (Some Rectangle) Shift = refl
+kind_is (Some Rectangle) Word = refl
+kind_is (Some Rectangle) Rectangle = refl
 
-    -- it is not
-    pub miss : (kind_of (words_of (take (end - at) (drop at text))) ≡ kind → ⊥) → Passed text kind from place next (suc k)
-    miss h =
-        let f = lines_forth text at next more n in
-        let a = p.forth in
-        let o = p.low in
-        record {
-          forth = omega arith;
-          within = m;
-          first = omega arith;
-          low = omega arith;
-          same = sym (kind_miss kind k _ _ h) ∙ sym (ap (of_kind kind k) (lines_on text at end next more e n)) ∙ p.same;
-        }
+module _ (kind : ℕ) (place at next : ℕ) (a : at ≡ place) (b : next ≡ suc place) (ls : List (List (List ℕ)))
+    (words : List (List ℕ)) (rest : List (List (List ℕ))) (is : ls ≡ words ∷ rest) where
+  pub left_hit : eqb (kind_of words) kind ≡ true → of_kind kind place ls ≡ line at words ∷ of_kind kind next rest
+  left_hit e = kind_hit kind place ls words rest is e ∙ ap₂ (λ p n. line p words ∷ of_kind kind n rest) (sym a) (sym b)
 
-  -- there are no more lines
-  pub passed_all : length text ≤ at → Finds text kind from place 0 0 0 (length text)
-  unfolding of_kind
-  passed_all h =
-      let a = p.forth in
-      let b = p.within in
-      record {
-        is = sym p.same ∙ ap (of_kind kind k) (lines_none text at h);
-        none = λ z. refl;
-        forth = omega arith;
-        within = omega arith;
-        past = omega arith;
-        on = λ z. absurd (omega arith);
-        most = omega arith;
-        low = omega arith;
-      }
+  pub left_miss : eqb (kind_of words) kind ≡ false → of_kind kind next rest ≡ of_kind kind place ls
+  left_miss e = sym (kind_miss kind place ls words rest is e ∙ ap (λ n. of_kind kind n rest) (sym b))

@@ -1,14 +1,7 @@
 -- What a text has that passed its questions: its numbers are not held, and its rectangles are within the limits.
 -- Assumes nothing.
-use Prim.Native.Nat.{ℕ, zero, suc, ◌-◌, ◌≤◌}
-use native.Mathlib.Omega.{arith}
-use mathlib.Core.Path.{◌≡◌, refl, sym, ap, ap₂, subst}
-use mathlib.Core.Bool.{Bool, true, false, cond, ◌&&◌}
-use mathlib.Core.List.{List, [], ◌∷◌, ◌++◌}
-use lib.Dec.{T, leb, ltb, eqb, leb→le, ltb→lt}
-use lib.ListN.{length}
-use borrow.Author.Tests.{leb-true, le-leb}
-use mir.Facts.{and_yes}
+use Rattle.std.proofs.Common.{ℕ, zero, suc, ◌-◌, ◌≤◌, arith, ◌≡◌, refl, sym, ap, ap₂, subst, Bool, true, false, cond, ◌&&◌, List, [], ◌∷◌, ◌++◌, T, leb, ltb, eqb, leb→le, ltb→lt, length, leb-true, le-leb}
+use Rattle.std.proofs.Math.Facts.{and_yes}
 use Rattle.arith.specs.Twos.{fits_signed}
 use Rattle.layout.specs.Contents.{Contents, table_of}
 use Rattle.layout.specs.Answers.{Question, asks}

@@ -1,64 +1,39 @@
--- The header's lines, as they are found.
+-- The header's lines, as they come.
 -- Assumes nothing.
-use Prim.Native.Nat.{ℕ, zero, suc, ◌+◌, ◌-◌}
-use native.Mathlib.Omega.{arith}
-use mathlib.Core.Path.{◌≡◌, refl, sym, ap, ◌∙◌}
-use mathlib.Core.Bool.{cond}
-use mathlib.Core.List.{List, [], ◌∷◌}
-use lib.Dec.{eqb}
-use lib.ListN.{length, get_or, take, drop}
-use borrow.Author.Tests.{eq-eqb, ne_eqb, le-leb, lt-leb}
-use Rattle.layout.specs.declared.Verdict.TheVariants.{Accepted, Refused}
-use Rattle.layout.specs.Answers.{verdict}
-use Rattle.words.specs.Words.{ended, words_from, words_of, lines_of}
-use Rattle.making.specs.Making.{line, of_kind, lines_with, head_line, once_asks}
-use Rattle.making.specs.Steps.{Finds}
+use Rattle.std.proofs.Common.{◌≡◌, ℕ, suc, ◌+◌, List, [], ◌∷◌, Option, Some, None, length, get_or, refl, sym, ap, ◌∙◌, arith, le-leb}
+use Rattle.std.proofs.lemmas.Bool.{lt-leb}
+use Rattle.std.specs.Prelude.{MatchOption, unwrap_or}
+use Rattle.layout.specs.Answers.{refused, accepted, verdict}
+use Rattle.words.specs.Words.{ended, words_from, words_of}
+use Rattle.making.specs.declared.lines.Line.{Line as Found}
+use Rattle.making.specs.Making.{Line, line, once_asks}
+use Rattle.making.specs.Steps.{line_said}
 
-module _ {text : List ℕ} {kind from place at start end next : ℕ} (f : Finds text kind from place at start end next) where
-  pub find_none : at ≡ 0 → of_kind kind place (lines_of (drop from text)) ≡ []
-  find_none e = f.is ∙ rw (eq-eqb at 0 e) refl
-
-  pub find_some : (at ≡ 0 → ⊥) → of_kind kind place (lines_of (drop from text))
-      ≡ line at (words_of (take (end - start) (drop start text))) ∷ of_kind kind (suc at) (lines_of (drop next text))
-  find_some e = f.is ∙ rw (ne_eqb at 0 e) refl
-
--- ---- the first line of a kind
-
-no_words : (n start : ℕ) (text : List ℕ) → n ≡ 0 → words_of (take n (drop start text)) ≡ []
+pub no_words : words_of [] ≡ []
 unfolding words_of words_from ended
-no_words n start text e = rw e refl
+no_words = refl
 
-module _ {text : List ℕ} {kind at start end next : ℕ} (f : Finds text kind 0 1 at start end next) where
-  pub head_is : head_line kind text ≡ line at (words_of (take (end - start) (drop start text)))
-  unfolding head_line lines_with
-  head_is = ap (λ ls. get_or ls 0 (line 0 [])) f.is ∙ go at refl
-    where
-      go : (n : ℕ) → n ≡ at
-          → get_or (cond (eqb at 0) [] (line at (words_of (take (end - start) (drop start text))) ∷ of_kind kind (suc at) (lines_of (drop next text)))) 0
-          (line 0 [])
-          ≡ line at (words_of (take (end - start) (drop start text)))
-      go zero e =
-          let z = f.none (sym e) in
-          rw (eq-eqb at 0 (sym e))
-          (sym (ap (λ n. line n (words_of (take (end - start) (drop start text)))) (sym e) ∙ ap (line 0) (no_words (end - start) start text (omega arith))))
-      go (suc n) e = rw (ne_eqb at 0 (λ z. omega arith)) refl
+-- the first line, or one in its place
+pub first_is : (o : Option Found) (d : Found) (ls rest : List Line) → MatchOption o ((ls ≡ []) × (rest ≡ [])) (λ l. ls ≡ line_said l ∷ rest)
+    → line_said d ≡ line 0 [] → line_said (unwrap_or o d) ≡ get_or ls 0 (line 0 [])
+first_is None d ls rest s e = e ∙ ap (λ l. get_or l 0 (line 0 [])) (sym s.0)
+first_is (Some l) d ls rest s e = ap (λ l. get_or l 0 (line 0 [])) (sym s)
 
-  -- ---- whether there is one
+-- ---- whether there is one
 
-  pub once_none : at ≡ 0 → Refused (109 + kind) 0 ≡ verdict (once_asks kind (lines_with kind text))
-  unfolding once_asks lines_with
-  once_none e = rw (find_none f e) refl
+module _ (kind : ℕ) (ls : List Line) where
+  pub once_none : (n : ℕ) → n ≡ 109 + kind → ls ≡ [] → refused n 0 ≡ verdict (once_asks kind ls)
+  unfolding once_asks
+  once_none n m e = ap (λ k. refused k 0) m ∙ ap (λ l. verdict (once_asks kind l)) (sym e)
 
-  module _ {at' start' end' next' : ℕ} (g : Finds text kind next (suc at) at' start' end' next') (some : at ≡ 0 → ⊥) where
-    pub once_one : at' ≡ 0 → Accepted ≡ verdict (once_asks kind (lines_with kind text))
-    unfolding once_asks lines_with
-    once_one e = rw (find_some f some, find_none g e) refl
+  module _ (l : Line) (r : List Line) (is : ls ≡ l ∷ r) where
+    pub once_one : r ≡ [] → accepted [] ≡ verdict (once_asks kind ls)
+    unfolding once_asks
+    once_one e = ap (λ x. verdict (once_asks kind x)) (sym (is ∙ ap (λ x. l ∷ x) e))
 
-    pub once_two : (at' ≡ 0 → ⊥) → Refused 108 at' ≡ verdict (once_asks kind (lines_with kind text))
-    unfolding once_asks lines_with
-    once_two e =
-        rw (find_some f some, find_some g e)
-        (rw (
-          le-leb 1 (suc (suc (length (of_kind kind (suc at') (lines_of (drop next' text)))))) (omega arith),
-          lt-leb (suc (suc (length (of_kind kind (suc at') (lines_of (drop next' text)))))) 1 (omega arith),
-        ) refl)
+    pub once_two : (l' : Line) (r' : List Line) → r ≡ l' ∷ r' → refused 108 l'.place ≡ verdict (once_asks kind ls)
+    unfolding once_asks
+    once_two l' r' e = two l' r' ∙ ap (λ x. verdict (once_asks kind x)) (sym (is ∙ ap (λ x. l ∷ x) e))
+      where
+        two : (l' : Line) (r' : List Line) → refused 108 l'.place ≡ verdict (once_asks kind (l ∷ l' ∷ r'))
+        two l' r' = rw (le-leb 1 (suc (suc (length r'))) (omega arith), lt-leb (suc (suc (length r'))) 1 (omega arith)) refl

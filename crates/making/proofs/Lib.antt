@@ -2,7 +2,7 @@ pub mod Findings
 pub mod Chains
 pub mod Heads
 pub mod Numbers
-pub mod Collecting
 pub mod Granted
+pub mod Collecting
 pub mod Outcomes
 pub mod Written

@@ -1,17 +1,10 @@
 -- The header's numbers held at 255: questions 3 to 5 are answered alike, and numbers that pass them are not held.
 -- Assumes nothing.
-use Prim.Native.Nat.{ℕ, ◌≤◌, ◌<◌, min}
-use native.Mathlib.Omega.{arith}
-use mathlib.Core.Path.{◌≡◌, refl, sym, ap, ap₂, ◌∙◌, subst}
-use mathlib.Core.Bool.{Bool, true, false, cond, ◌&&◌}
-use mathlib.Core.List.{List}
-use lib.Dec.{T, leb, ltb, leb→le, le→leb, ltb→lt, lt→ltb}
-use borrow.Author.Tests.{ne_eqb, le-leb, lt-leb}
-use mir.Facts.{and_yes}
+use Rattle.std.proofs.Common.{ℕ, ◌≤◌, ◌<◌, min, arith, ◌≡◌, refl, sym, ap, ap₂, ◌∙◌, subst, Bool, true, false, cond, ◌&&◌, List, [], T, leb, ltb, leb→le, le→leb, ltb→lt, lt→ltb, ne_eqb, le-leb}
+use Rattle.std.proofs.lemmas.Bool.{lt-leb}
+use Rattle.std.proofs.Math.Facts.{and_yes}
 use Rattle.arith.proofs.Bools.{bool_eq}
-use Rattle.layout.specs.declared.Verdict.{Verdict}
-use Rattle.layout.specs.declared.Verdict.TheVariants.{Accepted, Refused}
-use Rattle.layout.specs.Answers.{verdict}
+use Rattle.layout.specs.Answers.{Said, refused, accepted, verdict}
 use Rattle.layout.proofs.Questions.{on_verdict}
 use Rattle.limits.specs.Limits.{bits_good, drops_good, word_good, head_asks}
 use Rattle.making.specs.Making.{numbers_ask, contents_of, head_line}
@@ -54,14 +47,14 @@ unfolding head_asks
 asks_held b q1 q2 q3 t w = rw (bits_held b, word_held t w) (go (bits_good b) refl)
   where
     go : (g : Bool) → bits_good b ≡ g
-        → cond g (cond (drops_good (min 255 b) (min 255 q1) (min 255 q2) (min 255 q3)) (cond (word_good t w) Accepted (Refused 5 0)) (Refused 4 0)) (Refused 3 0)
-        ≡ cond g (cond (drops_good b q1 q2 q3) (cond (word_good t w) Accepted (Refused 5 0)) (Refused 4 0)) (Refused 3 0)
+        → cond g (cond (drops_good (min 255 b) (min 255 q1) (min 255 q2) (min 255 q3)) (cond (word_good t w) (accepted []) (refused 5 0)) (refused 4 0)) (refused 3 0)
+        ≡ cond g (cond (drops_good b q1 q2 q3) (cond (word_good t w) (accepted []) (refused 5 0)) (refused 4 0)) (refused 3 0)
     go true e = rw (drops_held b q1 q2 q3 (bits_most b e)) refl
     go false e = refl
 
 -- a no with the place of the line that it is said of
 placed : (text : List ℕ) → on_verdict (verdict (head_asks (contents_of text).b (contents_of text).q1 (contents_of text).q2 (contents_of text).q3 (contents_of text).t (contents_of text).w))
-    (λ n p. Refused n (blamed_of text n)) Accepted
+    (λ n p. refused n (blamed_of text n)) (accepted [])
     ≡ verdict (numbers_ask text (contents_of text))
 unfolding head_asks numbers_ask
 placed text =
@@ -69,20 +62,20 @@ placed text =
     (word_good (contents_of text).t (contents_of text).w)
   where
     go : (x y z : Bool)
-        → on_verdict (cond x (cond y (cond z Accepted (Refused 5 0)) (Refused 4 0)) (Refused 3 0)) (λ n p. Refused n (blamed_of text n)) Accepted
-        ≡ cond x (cond y (cond z Accepted (Refused 5 (head_line (cond (leb (contents_of text).t 31) 3 2) text).place)) (Refused 4 (head_line 1 text).place))
-        (Refused 3 (head_line 0 text).place)
+        → on_verdict (cond x (cond y (cond z (accepted []) (refused 5 0)) (refused 4 0)) (refused 3 0)) (λ n p. refused n (blamed_of text n)) (accepted [])
+        ≡ cond x (cond y (cond z (accepted []) (refused 5 (head_line (cond (leb (contents_of text).t 31) 3 2) text).place)) (refused 4 (head_line 1 text).place))
+        (refused 3 (head_line 0 text).place)
     go true true true = refl
     go true true false = refl
     go true false z = refl
     go false y z = refl
 
-pub numbers_are : (text : List ℕ) {v : Verdict}
+pub numbers_are : (text : List ℕ) {v : Said}
     → v ≡ verdict (head_asks (held_at 0 0 text) (held_at 1 0 text) (held_at 1 1 text) (held_at 1 2 text) (held_at 2 0 text) (held_at 3 0 text))
-    → on_verdict v (λ n p. Refused n (blamed_of text n)) Accepted ≡ verdict (numbers_ask text (contents_of text))
+    → on_verdict v (λ n p. refused n (blamed_of text n)) (accepted []) ≡ verdict (numbers_ask text (contents_of text))
 unfolding held_at
 numbers_are text e =
-    ap (λ x. on_verdict x (λ n p. Refused n (blamed_of text n)) Accepted)
+    ap (λ x. on_verdict x (λ n p. refused n (blamed_of text n)) (accepted []))
     (e ∙ asks_held (contents_of text).b (contents_of text).q1 (contents_of text).q2 (contents_of text).q3 (contents_of text).t (contents_of text).w)
     ∙ placed text
 

@@ -1,16 +1,18 @@
 -- What a text comes to, by the verdicts on its parts.
 -- Assumes nothing.
-use Prim.Native.Nat.{ℕ, ◌≤◌, ◌<◌}
-use mathlib.Core.Path.{◌≡◌, refl, sym, ap, ◌∙◌}
-use mathlib.Core.Bool.{cond}
-use mathlib.Core.List.{List, [], ◌∷◌, ◌++◌}
-use lib.ListN.{length}
-use borrow.Author.Tests.{le-leb, lt-leb}
-use Rattle.layout.specs.declared.Verdict.TheVariants.{Accepted, Refused}
-use Rattle.layout.specs.Answers.{Question, asks, first_no, verdict}
+use Rattle.std.proofs.Common.{ℕ, ◌≤◌, ◌<◌, ◌≡◌, refl, sym, ap, ◌∙◌, cond, List, [], ◌∷◌, ◌++◌, length, le-leb}
+use Rattle.std.proofs.lemmas.Bool.{lt-leb}
+use Rattle.std.specs.Prelude.{Err}
+use Rattle.layout.specs.Answers.{Question, refused as Refused, accepted, asks, first_no, verdict}
 use Rattle.layout.proofs.Questions.{on_verdict, first_append, first_verdict, first_map, same_questions, all_yes}
 use Rattle.limits.specs.Limits.{value_good}
-use Rattle.table.specs.Format.{Outcome, refused, loaded}
+use Rattle.layout.specs.Contents.{no_rects, table_of}
+use Rattle.table.specs.Format.{Outcome, refused, loaded, handed, handed_out}
+use Rattle.forms.specs.declared.faults.TextRefusal.{TextRefusal}
+use Rattle.forms.specs.Faults.{text_said}
+use Rattle.making.specs.declared.error.MakeError.{MakeError}
+use Rattle.making.specs.declared.error.MakeError.TheVariants.{Rule, Text}
+use Rattle.making.specs.Errors.{error_said, made_given}
 use Rattle.making.specs.Making.{contents_of, head_asks, tail_asks, make_asks, make_of}
 use Rattle.making.specs.Steps.{held_contents, collected, fit_held}
 use Rattle.making.proofs.Granted.{contents_exact, fitting_text}
@@ -41,7 +43,7 @@ module _ (text : List ℕ) where
     make_stops e = sym (make_is ∙ ap (λ v. on_verdict v refused behind) e)
 
     -- the rectangles and question 10, of the numbers as they are held
-    pub make_goes : verdict (head_asks text) ≡ Accepted → fit_held (collected text) ≡ make_of text
+    pub make_goes : verdict (head_asks text) ≡ accepted [] → fit_held (collected text) ≡ make_of text
     make_goes e =
         first_map fit_held (tail_asks text) refused (loaded (held_contents text))
         ∙ same_questions (λ x y. x ≡ y) (tail_asks text) refused (fit_held (loaded (held_contents text))) refused
@@ -50,3 +52,13 @@ module _ (text : List ℕ) where
         (λ y. ap (λ c. fit_held (loaded c)) (contents_exact text (all_yes (head_asks text) e) y)
         ∙ ap (λ b. cond b (loaded (contents_of text)) (refused 10 0)) (fitting_text text (all_yes (head_asks text) e) y))
         ∙ sym (make_is ∙ ap (λ v. on_verdict v refused behind) e)
+
+    -- the same of what the call answers
+    pub error_stops : (e : MakeError) → error_said e ≡ verdict (head_asks text) → made_given (Err e) ≡ handed_out (make_of text)
+    error_stops (Rule r) h = ap handed_out (make_stops (sym h))
+    error_stops (Text r) h = ap handed_out (make_stops (sym h))
+
+-- a text that is too long
+pub long_given : (text : List ℕ) (r : TextRefusal) → text_said (Err r) ≡ Refused 113 0 → 65535 < length text → made_given (Err (Text r))
+    ≡ handed_out (make_of text)
+long_given text r e h = ap (λ s. handed s (table_of (no_rects 0 0 0 0 0 0))) e ∙ ap handed_out (make_long text h)

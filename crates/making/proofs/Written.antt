@@ -1,23 +1,21 @@
 -- The table of a text is within the limits, so that it is written.
 -- Assumes nothing.
-use Prim.Native.Nat.{ℕ, ◌≤◌}
-use native.Mathlib.Omega.{arith}
-use mathlib.Core.Path.{◌≡◌, refl, sym, ap, ◌∙◌, subst}
-use mathlib.Core.Bool.{Bool, true, false, cond}
-use mathlib.Core.List.{List, [], ◌∷◌, ◌++◌}
-use lib.Dec.{T, leb}
-use lib.ListN.{length, drop, length-append}
-use lib.IntN.{pos}
-use mir.Facts.{yes_and}
+use Rattle.std.proofs.Common.{ℕ, ◌≤◌, arith, ◌≡◌, refl, sym, ap, ◌∙◌, subst, Bool, true, false, cond, List, [], ◌∷◌, ◌++◌, T, leb, length, drop, length-append, pos}
+use Rattle.std.proofs.Math.Facts.{yes_and}
+use Rattle.std.specs.Prelude.{Ok, Err}
 use Rattle.arith.proofs.Bools.{true_of}
 use Rattle.layout.specs.Contents.{Contents, table_of}
 use Rattle.layout.specs.Answers.{refused as refusal, accepted, wrote, asks}
 use Rattle.layout.proofs.Answers.{same_natural}
 use Rattle.layout.proofs.Questions.{AllYes, first_yes}
 use Rattle.limits.specs.Limits.{value_good, shaped, within, acceptable}
-use Rattle.table.specs.Format.{Outcome, refused, loaded, encode}
+use Rattle.layout.specs.declared.Table.{Table}
+use Rattle.making.specs.declared.error.MakeError.{MakeError}
+use Rattle.making.specs.declared.error.MakeError.TheVariants.{Rule, Text}
+use Rattle.making.specs.Errors.{error_said, made_given}
+use Rattle.table.specs.Format.{Outcome, refused, loaded, encode, table_from, handed_out}
 use Rattle.table.specs.Writing.{write_of}
-use Rattle.table.proofs.Sound.{same_contents}
+use Rattle.table.proofs.Sound.{same_contents, refused_from, loaded_from}
 use Rattle.table.proofs.Complete.{Shaped, shaped_of}
 use Rattle.table.proofs.Structs.{contents-table_of}
 use Rattle.table.proofs.Encoded.{length-encode}
@@ -77,3 +75,16 @@ left_within (loaded c) out {after} {n} e = go (leb (length (encode c)) (length o
 pub made_within_out : (text out : List ℕ) {after : List ℕ} {n : ℕ} → wrote (accepted (pos n ∷ [])) after ≡ make_left text out → n ≤ length after
 unfolding make_left
 made_within_out text out e = left_within (make_of text) out e
+
+-- ---- what the call leaves
+
+pub error_left : (text out : List ℕ) (e : MakeError) → made_given (Err e) ≡ handed_out (make_of text) → wrote (error_said e) out ≡ make_left text out
+unfolding make_left
+error_left text out (Rule r) h = sym (ap (λ o. left_by o out) (refused_from (make_of text) _ _ (sym (ap (λ x. x.said) h))))
+error_left text out (Text r) h = sym (ap (λ o. left_by o out) (refused_from (make_of text) _ _ (sym (ap (λ x. x.said) h))))
+
+pub written_left : (text out : List ℕ) (t : Table) → made_given (Ok t) ≡ handed_out (make_of text) → write_of t out ≡ make_left text out
+unfolding make_left
+written_left text out t e =
+    let l = loaded_from (make_of text) (sym (ap (λ h. h.said) e)) in
+    ap (λ x. write_of x out) (ap (λ h. h.table) e ∙ ap table_from l.1) ∙ made_left text l.0 out l.1 ∙ sym (ap (λ o. left_by o out) l.1)

@@ -1,2 +1,3 @@
 pub mod Making
+pub mod Errors
 pub mod Steps

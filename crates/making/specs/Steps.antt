@@ -1,27 +1,31 @@
--- What the functions behind the call say: where a line was found, and the table in the widths of the struct.
+-- What the functions behind the call say: which lines come, and the table in the widths of the struct.
 -- Assumes nothing.
-use Rattle.std.specs.Prelude.{ℕ, suc, ◌-◌, ◌≤◌, ◌<◌, min, ◌≡◌, cond, List, [], ◌∷◌, eqb, leb, length, take, drop}
+use Rattle.std.specs.Prelude.{ℕ, suc, min, ◌≡◌, cond, List, [], ◌∷◌, eqb, leb, Option, MatchOption}
 use Rattle.layout.specs.declared.Rect.{Rect}
 use Rattle.layout.specs.Contents.{Contents, no_rects, table_of}
 use Rattle.layout.specs.Answers.{asks, first_no}
 use Rattle.limits.specs.Limits.{fitting}
 use Rattle.table.specs.Format.{Outcome, refused, loaded}
 use Rattle.words.specs.Words.{words_of, lines_of}
-use Rattle.forms.specs.Forms.{size_at, held_rect}
+use Rattle.forms.specs.Forms.{kind_number, size_at, held_rect}
+use Rattle.making.specs.declared.lines.Line.{Line as Found}
+use Rattle.making.specs.declared.lines.Placed.{Placed}
+use Rattle.making.specs.declared.lines.OfKind.{OfKind}
 use Rattle.making.specs.Making.{Line, line, of_kind, lines_with, head_line, tail_asks}
 
--- the lines of a kind from place `from` of a text on begin with line `at`, which stands at `start` to `end`, and the line after it
--- at `next`; `at` is 0 where there is none
-pub record Finds (text : List ℕ) (kind from place at start end next : ℕ) : Type 0 where
-  pub is : of_kind kind place (lines_of (drop from text))
-      ≡ cond (eqb at 0) [] (line at (words_of (take (end - start) (drop start text))) ∷ of_kind kind (suc at) (lines_of (drop next text)))
-  pub none : at ≡ 0 → start ≡ end
-  pub forth : start ≤ end
-  pub within : end ≤ length text
-  pub past : from ≤ next
-  pub on : 1 ≤ at → from < next
-  pub most : next ≤ length text
-  pub low : at ≤ next
+-- what a line of the code says
+abbrev pub line_said : Found → Line
+line_said l = line l.place (words_of l.bytes.now)
+
+-- the next line of a text, with the place of the next
+abbrev pub YieldsLine : Placed → Option Found → Placed → Type 0
+YieldsLine s r t =
+    MatchOption r ((lines_of s.rest.0.now ≡ []) × (lines_of t.rest.0.now ≡ []))
+    (λ l. (l.place ≡ s.place) × (t.place ≡ suc s.place) × (lines_of s.rest.0.now ≡ words_of l.bytes.now ∷ lines_of t.rest.0.now))
+
+-- the lines of a kind that are left
+abbrev pub lines_left : OfKind → List Line
+lines_left s = of_kind (kind_number s.kind) s.lines.place (lines_of s.lines.rest.0.now)
 
 -- the header's numbers, held at 255
 unfoldable pub held_at : (kind k : ℕ) → (text : List ℕ) → ℕ

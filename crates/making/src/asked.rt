@@ -1,48 +1,34 @@
-// What is asked before the rectangles.
-ghost use Rattle.std.specs.Prelude.{◌≡◌, ◌≤◌, length};
+//! What is asked before the rectangles.
+ghost use Rattle.std.specs.Prelude.{◌≡◌, ◌≤◌, [], length};
 ghost use Rattle.layout.specs.Answers.{verdict};
 ghost use Rattle.words.specs.Words.{lines_of};
+ghost use Rattle.forms.specs.Faults.{text_said};
 ghost use Rattle.making.specs.Making.{lines_ask, head_asks};
+ghost use Rattle.making.specs.Errors.{answer_said};
 
+use crate::MakeError;
 use crate::header::{all_once, numbers};
-use forms::look;
-use layout::Verdict;
-use text::{line_end, next_line};
+use crate::lines::Placed;
+use forms::{TextRefusal, look};
 
-// The questions on each line by itself.
-fn lines(text: &[u8]) -> Verdict
+/// The questions on each line by itself.
+fn lines(text: &[u8]) -> Result<(), TextRefusal>
     requires { length text.now ≤ 65535 }
-    ensures { result ≡ verdict (lines_ask 1 (lines_of text.now)) }
+    ensures { text_said result ≡ verdict (lines_ask 1 (lines_of text.now)) }
 {
-    let mut at = 0;
-    let mut place = 1;
-    while at < text.len() {
-        let end = line_end(text, at);
-        let v = look(&text[at..end], place);
-        match v {
-            Verdict::Refused(_, _) => return v,
-            Verdict::Accepted => {}
-        }
-        at = next_line(text, at);
-        place += 1;
+    for line in Placed::of(text) {
+        look(line.bytes, line.place)?;
     }
-    Verdict::Accepted
+    Ok(())
 }
 
-// The questions on the lines, on the header's lines, and on the header's numbers.
-pub fn asked(text: &[u8]) -> Verdict
+/// The questions on the lines, on the header's lines, and on the header's numbers.
+pub fn asked(text: &[u8]) -> Result<(), MakeError>
     requires { length text.now ≤ 65535 }
-    ensures { result ≡ verdict (head_asks text.now) }
+    ensures { answer_said (λ x. []) result ≡ verdict (head_asks text.now) }
 {
-    let v = lines(text);
-    match v {
-        Verdict::Refused(_, _) => return v,
-        Verdict::Accepted => {}
-    }
-    let v = all_once(text);
-    match v {
-        Verdict::Refused(_, _) => return v,
-        Verdict::Accepted => {}
-    }
-    numbers(text)
+    lines(text)?;
+    all_once(text)?;
+    numbers(text)?;
+    Ok(())
 }

@@ -1,59 +1,42 @@
-// A table from its text.
+//! A table from its text.
 ghost use Rattle.std.specs.Prelude.{◌≡◌, ◌≤◌, length};
-ghost use Rattle.layout.specs.Answers.{said, wrote};
-ghost use Rattle.table.specs.Format.{handed, handed_out};
-ghost use Rattle.table.specs.Writing.{written_said};
+ghost use Rattle.layout.specs.Answers.{wrote};
+ghost use Rattle.table.specs.Format.{given, handed_out};
 ghost use Rattle.making.specs.Making.{make_of, make_left};
 ghost use Rattle.making.specs.Steps.{collected, fit_held};
+ghost use Rattle.making.specs.Errors.{made_said, made_given};
 
+use crate::MakeError;
 use crate::asked::asked;
-use crate::header::head_of;
 use crate::rects::collect;
-use layout::Verdict;
+use forms::{TextFault, TextRefusal};
+use layout::{Question, Refusal, Table};
 use limits::value_good;
-use table::{Loaded, Written, refused, write};
+use table::write;
 
-// The rectangles, and question 10.
-fn fitted(text: &[u8]) -> Loaded
+/// The rectangles, and question 10.
+fn fitted(text: &[u8]) -> Result<Table, Refusal>
     requires { length text.now ≤ 65535 }
-    ensures { handed (said result.verdict) result.table ≡ handed_out (fit_held (collected text.now)) }
+    ensures { given result ≡ handed_out (fit_held (collected text.now)) }
 {
-    let read = collect(text, head_of(text));
-    let v = read.verdict;
-    match v {
-        Verdict::Refused(_, _) => read,
-        Verdict::Accepted => {
-            let t = read.table;
-            if value_good(t) { read } else { refused(10, 0) }
-        }
-    }
+    let t = collect(text)?;
+    Refusal::unless(value_good(t), Question::Extremes)?;
+    Ok(t)
 }
 
-// What the text comes to.
-fn made(text: &[u8]) -> Loaded
-    ensures { handed (said result.verdict) result.table ≡ handed_out (make_of text.now) }
+/// What the text comes to.
+fn made(text: &[u8]) -> Result<Table, MakeError>
+    ensures { made_given result ≡ handed_out (make_of text.now) }
 {
-    if 65535 < text.len() {
-        return refused(113, 0);
-    }
-    let v = asked(text);
-    match v {
-        Verdict::Refused(number, place) => refused(number, place),
-        Verdict::Accepted => fitted(text),
-    }
+    TextRefusal::unless(text.len() <= 65535, TextFault::TooLong, 0)?;
+    asked(text)?;
+    Ok(fitted(text)?)
 }
 
-// Makes a table's file from its text.
-pub fn make(text: &[u8], out: &mut [u8]) -> Written
-    ensures { wrote (written_said result) out.new ≡ make_left text.now out.old }
+/// Makes a table's file from its text.
+pub fn make(text: &[u8], out: &mut [u8]) -> Result<usize, MakeError>
+    ensures { wrote (made_said result) out.new ≡ make_left text.now out.old }
 {
-    let read = made(text);
-    let v = read.verdict;
-    match v {
-        Verdict::Refused(number, place) => Written::Refused(number, place),
-        Verdict::Accepted => {
-            let t = read.table;
-            write(t, out)
-        }
-    }
+    let t = made(text)?;
+    Ok(write(t, out)?)
 }

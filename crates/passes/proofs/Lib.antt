@@ -1,2 +1,3 @@
-pub mod Steps
+pub mod Columns
 pub mod Prefixes
+pub mod Steps

@@ -1,14 +1,15 @@
 -- Laws of running sums and of differences, modulo 2^32, and of the part of a rectangle, its weight times a scaled sum.
 -- Assumes nothing.
-use Rattle.std.proofs.Common.{◌≡◌, ℕ, ◌+◌, ◌*◌, ◌%◌, ◌<◌, ◌≤◌, List, get_or, sym, ap, ◌∙◌, mod-eq_of_lt, mul-le-mul, arith}
+use Rattle.std.proofs.Common.{◌≡◌, ℕ, ◌+◌, ◌*◌, ◌%◌, ◌<◌, ◌≤◌, List, get_or, sym, ap, ◌∙◌, mod-eq_of_lt, mul-le-mul, add-one, arith}
 use native.Mathlib.Nat.{div-add-mod, mod-add-mod}
 use Rattle.arith.proofs.Sums.{sum-suc}
-use Rattle.passes.specs.Passes.{prefix, running, less, part_most, scaled_end}
+use Rattle.passes.specs.Passes.{prefix, less, part_most, scaled_end}
 
--- a place added to the sum of those before it
-pub running_next : (line : List ℕ) (i : ℕ) → (prefix line i % 4294967296 + get_or line i 0) % 4294967296 ≡ running line i
-running_next line i =
-    mod-add-mod (prefix line i) 4294967296 (get_or line i 0) ∙ ap (λ s. s % 4294967296) (sym (sum-suc i (λ j. get_or line j 0)))
+-- a place x added to the sum s of those before it
+pub running_next : (line : List ℕ) (i s x : ℕ) → s ≡ prefix line i % 4294967296 → x ≡ get_or line i 0 → (s + x) % 4294967296 ≡ prefix line (i + 1) % 4294967296
+running_next line i s x e f =
+    rw (e, f) (mod-add-mod (prefix line i) 4294967296 (get_or line i 0) ∙ ap (λ s. s % 4294967296) (sym (sum-suc i (λ j. get_or line j 0))))
+    ∙ ap (λ k. prefix line k % 4294967296) (sym (add-one i))
 
 -- the difference of two places, as it is taken
 pub less_is : (p g d : ℕ) → d < 4294967296 → (d + g) % 4294967296 ≡ p → d ≡ less p g

@@ -1,6 +1,6 @@
 -- What the passes over the columns of a row compute, each over plain lists, and what they ask.
 -- Assumes nothing.
-use Rattle.std.specs.Prelude.{◌≡◌, ℕ, suc, ◌+◌, ◌-◌, ◌*◌, ◌/◌, ◌%◌, ◌^◌, ◌<◌, ◌≤◌, Bool, ◌&&◌, T, List, length, ℤ, nat_le, slice_index}
+use Rattle.std.specs.Prelude.{ℕ, suc, ◌+◌, ◌-◌, ◌*◌, ◌/◌, ◌%◌, ◌^◌, ◌<◌, ◌≤◌, Bool, ◌&&◌, T, List, length, ℤ, nat_le, slice_index}
 use Rattle.std.proofs.Math.IntN.{sub_ℕ}
 use Rattle.arith.specs.Floor.{floor_div}
 use Rattle.arith.specs.Sum.{sum}
@@ -86,59 +86,9 @@ rounded value shift = floor_div (sub_ℕ value bias) shift
 
 -- ---- what each pass asks, of lengths, lists and numbers
 
-pub record UpdateFits (n bound q1 q2 line sums off on : ℕ) : Type 0 where
-  pub line_long : n ≤ line
-  pub sums_long : n ≤ sums
-  pub off_long : n ≤ off
-  pub on_long : n ≤ on
-  pub bound_at_most : bound ≤ bound_most
-  pub q1_most : q1 ≤ 11
-  pub q2_most : q2 ≤ 8
-
-pub record RollBackFits (n q1 sums off on : ℕ) : Type 0 where
-  pub sums_long : n ≤ sums
-  pub off_long : n ≤ off
-  pub on_long : n ≤ on
-  pub q1_most : q1 ≤ 11
-
-pub record WeighFits (n q acc lead trail : ℕ) : Type 0 where
-  pub acc_long : n ≤ acc
-  pub lead_long : n ≤ lead
-  pub trail_long : n ≤ trail
-  pub q_most : q ≤ 8
-
-pub record AccumulateFits (n q3 q above below : ℕ) (acc lead trail : List ℕ) : Type 0 where
-  pub acc_long : n ≤ length acc
-  pub lead_long : n ≤ length lead
-  pub trail_long : n ≤ length trail
-  pub q3_most : q3 ≤ 8
-  pub q_most : q ≤ 27
-  pub above_most : above ≤ 32768
-  pub below_most : below ≤ 32768
-  pub one_sign : 0 < below → above ≡ 0
-  pub small : (c : ℕ) → c < n → scaled lead trail q3 q c < scaled_end
-  pub value_least : (c : ℕ) → c < n → part_most ≤ slice_index acc c
-  pub value_at_most : (c : ℕ) → c < n → slice_index acc c ≤ value_most
-
 pub record RoundFits (value shift : ℕ) : Type 0 where
   pub value_at_most : value ≤ value_most
   pub in_word : T (fits_signed 32 (rounded value shift))
-
-pub record WriteFits (n shift out acc : ℕ) : Type 0 where
-  pub out_long : n ≤ out
-  pub acc_long : n ≤ acc
-  pub shift_most : shift ≤ 31
-
-pub record WriteWideFits (n shift out : ℕ) (acc : List ℕ) : Type 0 where
-  pub out_long : n ≤ out
-  pub acc_long : n ≤ length acc
-  pub values : (c : ℕ) → c < n → RoundFits (slice_index acc c) shift
-
-pub record NarrowWords (n shift word acc : ℕ) : Type 0 where
-  pub acc_long : n ≤ acc
-  pub shift_most : shift ≤ 31
-  pub word_least : 8 ≤ word
-  pub word_most : word ≤ 32
 
 pub record WideWords (n shift word : ℕ) (acc : List ℕ) : Type 0 where
   pub acc_long : n ≤ length acc

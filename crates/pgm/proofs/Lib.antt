@@ -1,3 +1,5 @@
 pub mod Tokens
 pub mod Mapping
+pub mod Passes
+pub mod Texts
 pub mod Theorems

@@ -1,15 +1,8 @@
 -- The mapping from pixels to samples of the picture: its value from a raised pixel, its order, and its exactness.
 -- Assumes nothing.
-use Prim.Native.Nat.{ℕ, suc, ◌+◌, ◌-◌, ◌*◌, ◌/◌, ◌^◌, ◌≤◌, ◌<◌, min}
-use native.Mathlib.Omega.{arith}
-use mathlib.Core.Path.{◌≡◌, sym, ap, ◌∙◌, subst}
-use mathlib.Core.Bool.{true}
-use mathlib.Core.List.{List, [], ◌∷◌, ◌++◌, append_assoc}
-use mir.Facts.{and_yes}
-use lib.Dec.{T, leb, leb→le}
-use lib.ListN.{length, get_or, set, drop, length-append}
-use lib.Seq.{drop-cons, set_at}
-use lib.IntN.{ℤ}
+use Rattle.std.proofs.Common.{ℕ, suc, ◌+◌, ◌-◌, ◌*◌, ◌/◌, ◌^◌, ◌≤◌, ◌<◌, min, arith, ◌≡◌, sym, ap, ◌∙◌, subst, true, List, [], ◌∷◌, ◌++◌, append_assoc, T, leb, leb→le, length, get_or, set, drop, length-append, drop-cons, ℤ}
+use Rattle.std.proofs.Math.Facts.{and_yes}
+use Rattle.std.proofs.Math.Seq.{set_at}
 use Rattle.arith.specs.Diff.{Diff}
 use Rattle.arith.specs.Tab.{tab, grid}
 use Rattle.arith.proofs.Ints.{diff_pos, diff_add, diff_pos_part}

@@ -1,26 +1,20 @@
 -- What the mapping from pixels to the picture promises, and headers read as the grammar says.
 -- Assumes nothing.
-use Prim.Native.Nat.{ℕ, ◌+◌, ◌-◌, ◌/◌, ◌^◌, ◌≤◌, ◌<◌}
-use native.Mathlib.Omega.{arith}
-use native.Mathlib.Nat.{div-lt_iff_lt-mul}
-use mathlib.Core.Path.{◌≡◌, refl, ap, ◌∙◌}
-use lib.Dec.{T}
-use lib.IntN.{ℤ, pos, ◌+ℤ◌}
-use lib.Signed.{◌≤ℤ◌}
-use lib.Pow.{pow_pos, pow-add, pow_mono, shr_mono}
+use Rattle.std.proofs.Common.{ℕ, ◌+◌, ◌-◌, ◌/◌, ◌^◌, ◌≤◌, ◌<◌, arith, div-lt_iff_lt-mul, ◌≡◌, refl, ap, ◌∙◌, T, ℤ, pos, ◌+ℤ◌, ◌≤ℤ◌, pow_pos, pow-add, pow_mono, [], ◌∷◌}
+use Rattle.std.proofs.Math.Pow.{shr_mono}
+use Rattle.std.specs.Prelude.{Ok, Err}
 use Rattle.arith.specs.Diff.{Diff}
 use Rattle.arith.specs.Part.{pos_part}
 use Rattle.arith.specs.Twos.{fits_signed}
 use Rattle.arith.proofs.Bias.{Raised, raised}
 use Rattle.arith.proofs.Ints.{diff_pos, diff_parts, diff_add, diff_pos_part, le_diff}
 use Rattle.arith.proofs.Words.{fits_mag, pow_half}
-use mathlib.Core.List.{[], ◌∷◌}
 use Rattle.pgm.specs.Shade.{shade, level_byte}
-use Rattle.pgm.specs.declared.Opening.TheVariants.{Whole, More, Bad, Large}
+use Rattle.pgm.specs.declared.Entry.TheVariants.{Width}
+use Rattle.pgm.specs.declared.NoHeader.TheVariants.{More, Bad, Large}
 use Rattle.pgm.specs.Grammar.{
   header_of,
   magic,
-  numbers_of,
   ended,
   field,
   begin,
@@ -91,24 +85,24 @@ level_exact n h = omega arith
 -- ---- headers
 
 -- `P5 3 2 255` and a line feed, with a sample after it
-plain : header_of (80 ∷ 53 ∷ 32 ∷ 51 ∷ 32 ∷ 50 ∷ 32 ∷ 50 ∷ 53 ∷ 53 ∷ 10 ∷ 7 ∷ []) ≡ Whole 3 2 255 11
-unfolding header_of magic numbers_of ended field begin end value number digits gap in_comment in_gap digit line_end blank
+plain : header_of (80 ∷ 53 ∷ 32 ∷ 51 ∷ 32 ∷ 50 ∷ 32 ∷ 50 ∷ 53 ∷ 53 ∷ 10 ∷ 7 ∷ []) ≡ Ok (record { width = 3; height = 2; maxval = 255; end = 11 })
+unfolding header_of magic ended field begin end value number digits gap in_comment in_gap digit line_end blank
 plain = refl
 
 -- the same with the comment `#1` and a line feed before the height
-commented : header_of (80 ∷ 53 ∷ 32 ∷ 51 ∷ 32 ∷ 35 ∷ 49 ∷ 10 ∷ 50 ∷ 32 ∷ 50 ∷ 53 ∷ 53 ∷ 10 ∷ 7 ∷ []) ≡ Whole 3 2 255 14
-unfolding header_of magic numbers_of ended field begin end value number digits gap in_comment in_gap digit line_end blank
+commented : header_of (80 ∷ 53 ∷ 32 ∷ 51 ∷ 32 ∷ 35 ∷ 49 ∷ 10 ∷ 50 ∷ 32 ∷ 50 ∷ 53 ∷ 53 ∷ 10 ∷ 7 ∷ []) ≡ Ok (record { width = 3; height = 2; maxval = 255; end = 14 })
+unfolding header_of magic ended field begin end value number digits gap in_comment in_gap digit line_end blank
 commented = refl
 
 -- `P5 3`, where the width may go on; `P5 65536 `; `P5 x`
-begun : header_of (80 ∷ 53 ∷ 32 ∷ 51 ∷ []) ≡ More
-unfolding header_of magic numbers_of ended field begin end value number digits gap in_comment in_gap digit line_end blank
+begun : header_of (80 ∷ 53 ∷ 32 ∷ 51 ∷ []) ≡ Err More
+unfolding header_of magic ended field begin end value number digits gap in_comment in_gap digit line_end blank
 begun = refl
 
-too_large : header_of (80 ∷ 53 ∷ 32 ∷ 54 ∷ 53 ∷ 53 ∷ 51 ∷ 54 ∷ 32 ∷ []) ≡ Large 0 3
-unfolding header_of magic numbers_of ended field begin end value number digits gap in_comment in_gap digit line_end blank
+too_large : header_of (80 ∷ 53 ∷ 32 ∷ 54 ∷ 53 ∷ 53 ∷ 51 ∷ 54 ∷ 32 ∷ []) ≡ Err (Large Width 3)
+unfolding header_of magic ended field begin end value number digits gap in_comment in_gap digit line_end blank
 too_large = refl
 
-no_number : header_of (80 ∷ 53 ∷ 32 ∷ 120 ∷ []) ≡ Bad 0 3
-unfolding header_of magic numbers_of ended field begin end value number digits gap in_comment in_gap digit line_end blank
+no_number : header_of (80 ∷ 53 ∷ 32 ∷ 120 ∷ []) ≡ Err (Bad Width 3)
+unfolding header_of magic ended field begin end value number digits gap in_comment in_gap digit line_end blank
 no_number = refl

@@ -1,10 +1,11 @@
 -- The header of a binary PGM: `P5`, three numbers, each after white space and comments, and one byte of white space.
 -- Assumes nothing.
-use Rattle.std.specs.Prelude.{ℕ, suc, ◌+◌, ◌-◌, ◌*◌, Bool, false, cond, not, ◌&&◌, ◌||◌, List, [], ◌∷◌, leb, eqb, length, get_or, drop}
+use Rattle.std.specs.Prelude.{ℕ, suc, ◌+◌, ◌-◌, ◌*◌, Bool, false, cond, not, ◌&&◌, ◌||◌, List, [], ◌∷◌, leb, eqb, length, get_or, drop, Result, Ok, Err}
+use Rattle.pgm.specs.declared.Entry.{Entry}
+use Rattle.pgm.specs.declared.Entry.TheVariants.{Width, Height, Maxval}
 use Rattle.pgm.specs.declared.Opening.{Opening}
-use Rattle.pgm.specs.declared.Opening.TheVariants.{Whole, More, Foreign, Bad, Large}
-use Rattle.pgm.specs.declared.parsing.Part.{Part}
-use Rattle.pgm.specs.declared.parsing.Part.TheVariants.{Read, Stopped}
+use Rattle.pgm.specs.declared.NoHeader.{NoHeader}
+use Rattle.pgm.specs.declared.NoHeader.TheVariants.{More, Foreign, Bad, Large, Unended}
 
 -- white space: tab, line feed, vertical tab, form feed, carriage return, space
 unfoldable pub blank : ℕ → Bool
@@ -50,38 +51,35 @@ end bs at = begin bs at + digits (drop (begin bs at) bs)
 unfoldable pub value : List ℕ → (at : ℕ) → ℕ
 value bs at = number 0 (drop (begin bs at) bs)
 
--- number k of the header, from place `at` on, with where it ends; or what is missing or wrong
-unfoldable pub field : (k : ℕ) → List ℕ → (at : ℕ) → Part
-field k bs at =
-    cond (leb (length bs) (begin bs at)) (Stopped More)
-    (cond (eqb (end bs at) (begin bs at)) (Stopped (Bad k (begin bs at)))
-    (cond (leb 65536 (value bs at)) (Stopped (Large k (begin bs at))) (Read (value bs at) (end bs at))))
+-- a number of the header, from place `at` on, with where it ends; or what is missing or wrong
+unfoldable pub field : Entry → List ℕ → (at : ℕ) → Result (ℕ × ℕ) NoHeader
+field entry bs at =
+    cond (leb (length bs) (begin bs at)) (Err More)
+    (cond (eqb (end bs at) (begin bs at)) (Err (Bad entry (begin bs at)))
+    (cond (leb 65536 (value bs at)) (Err (Large entry (begin bs at))) (Ok (value bs at, end bs at))))
 
 -- what follows a number that was read
-abbrev pub and_then : Part → (ℕ → ℕ → Opening) → Opening
-and_then (Read value end) next = next value end
-and_then (Stopped h) next = h
+abbrev pub and_then : Result (ℕ × ℕ) NoHeader → (ℕ → ℕ → Result Opening NoHeader) → Result Opening NoHeader
+and_then (Ok (value, end)) next = next value end
+and_then (Err why) next = Err why
 
 -- one byte of white space ends the header
-unfoldable pub ended : List ℕ → (width height maxval at : ℕ) → Opening
+unfoldable pub ended : List ℕ → (width height maxval at : ℕ) → Result Opening NoHeader
 ended bs width height maxval at =
-    cond (leb (length bs) at) More (cond (blank (get_or bs at 0)) (Whole width height maxval (at + 1)) (Bad 3 at))
-
--- the maxval, after the width and the height; the height and the maxval, after the width
-abbrev pub last_of : List ℕ → (width height at : ℕ) → Opening
-last_of bs width height at = and_then (field 2 bs at) (λ maxval at. ended bs width height maxval at)
-
-abbrev pub later_of : List ℕ → (width at : ℕ) → Opening
-later_of bs width at = and_then (field 1 bs at) (λ height at. last_of bs width height at)
+    cond (leb (length bs) at) (Err More)
+    (cond (blank (get_or bs at 0)) (Ok (record { width = width; height = height; maxval = maxval; end = at + 1 })) (Err (Unended at)))
 
 -- the three numbers, from place 2 on
-unfoldable pub numbers_of : List ℕ → Opening
-numbers_of bs = and_then (field 0 bs 2) (λ width at. later_of bs width at)
+abbrev pub numbers_of : List ℕ → Result Opening NoHeader
+numbers_of bs =
+    and_then (field Width bs 2) (λ width at.
+    and_then (field Height bs at) (λ height at.
+    and_then (field Maxval bs at) (λ maxval at. ended bs width height maxval at)))
 
 -- bs begins with `P5` and a gap
 unfoldable pub magic : List ℕ → Bool
 magic bs = eqb (get_or bs 0 0) 80 && (eqb (get_or bs 1 0) 53 && in_gap false (get_or bs 2 0))
 
 -- what the first bytes of a file come to
-unfoldable pub header_of : List ℕ → Opening
-header_of bs = cond (leb 3 (length bs)) (cond (magic bs) (numbers_of bs) Foreign) More
+unfoldable pub header_of : List ℕ → Result Opening NoHeader
+header_of bs = cond (leb 3 (length bs)) (cond (magic bs) (numbers_of bs) (Err Foreign)) (Err More)

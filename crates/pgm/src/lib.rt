@@ -1,13 +1,13 @@
-// Binary PGM pictures: the header of one that comes in, the samples of its rows, and the picture of 16 or of 8 bits or the decimal
-// text of filtered rows that go out.
-//
-//   header         width, height, maxval and length of a PGM header; that it goes on; or what is wrong with it and where
-//   decode         the samples of a row, and how many
-//   encode         a row of the 16-bit picture, two bytes a pixel, and how many pixels
-//   encode_levels  a row of levels, a byte each, and how many
-//   line           a row of pixels as decimal numbers, and the length of the text
-//   head           the header of the picture, and its length
-//   number         the number that begins at a place, 65,536 where it is larger, and where its digits end
+//! Binary PGM pictures: the header of one that comes in, the samples of its rows, and the picture of 16 or of 8 bits or the decimal
+//! text of filtered rows that go out.
+//!
+//!   header         width, height, maxval and length of a PGM header; or why the bytes are none
+//!   decode         the samples of a row, and how many
+//!   encode         a row of the 16-bit picture, two bytes a pixel, and how many pixels
+//!   encode_levels  a row of levels, a byte each, and how many
+//!   Line           a row of pixels, printed as decimal numbers
+//!   Head           the header of the picture, printed
+//!   number         the number that begins at a place, 65,536 where it is larger, and where its digits end
 #![tactic(auto)]
 
 mod levels;
@@ -17,24 +17,57 @@ mod reading;
 mod shades;
 mod writing;
 
+ghost use Rattle.std.specs.Prelude.{Some};
+ghost use Rattle.pgm.specs.Text.{entry_name};
+
 pub use levels::encode_levels;
 pub use lexing::{Digits, number};
 pub use parsing::header;
 pub use reading::decode;
 pub use shades::encode;
-pub use writing::{head, line};
+use std::fmt;
+pub use writing::{Head, Line};
 
-// What the first bytes of a file come to.
-#[derive(Clone, Copy)]
-pub enum Opening {
-    // width, height, maxval, and the length of the header: the samples begin there
-    Whole(u32, u32, u32, usize),
-    // the bytes are the beginning of a header
+/// The numbers of a header, in their order; printed, one is its name.
+#[derive(Clone, Copy, Debug, PartialEq, Eq)]
+pub enum Entry {
+    Width,
+    Height,
+    Maxval,
+}
+
+impl fmt::Display for Entry {
+    ghost output = { λ e. Some (entry_name e) };
+
+    fn fmt<W: fmt::Write>(&self, f: &mut fmt::Formatter<W>) -> fmt::Result {
+        match self {
+            Entry::Width => write!(f, "width"),
+            Entry::Height => write!(f, "height"),
+            Entry::Maxval => write!(f, "maxval"),
+        }
+    }
+}
+
+/// A whole header: its numbers, and where it ends and the samples begin.
+#[derive(Clone, Copy, Debug, PartialEq, Eq)]
+pub struct Opening {
+    pub width: u32,
+    pub height: u32,
+    pub maxval: u32,
+    pub end: usize,
+}
+
+/// Why the first bytes of a file are no whole header.
+#[derive(Clone, Copy, Debug, PartialEq, Eq)]
+pub enum NoHeader {
+    /// they are the beginning of one
     More,
-    // they begin with no P5 and white space
+    /// they begin with no P5 and white space
     Foreign,
-    // number 0 (width), 1 (height) or 2 (maxval) does not begin at this byte; 3: it is no white space after the last number
-    Bad(u32, usize),
-    // the number that begins at this byte is above 65,535
-    Large(u32, usize),
+    /// this number does not begin at this byte
+    Bad(Entry, usize),
+    /// this number, which begins at this byte, is above 65,535
+    Large(Entry, usize),
+    /// it is no white space that stands at this byte, after the last number
+    Unended(usize),
 }

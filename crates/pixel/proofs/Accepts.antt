@@ -1,15 +1,10 @@
 -- What the one-pixel call's acceptance tells.
 -- Assumes nothing.
-use Prim.Native.Nat.{ℕ}
-use mathlib.Core.Path.{◌≡◌, sym, subst}
-use mathlib.Core.Bool.{true}
-use mathlib.Core.List.{List}
-use lib.Dec.{T}
-use lib.ListN.{length}
+use Rattle.std.proofs.Common.{ℕ, ◌≡◌, sym, subst, true, List, T, length}
 use Rattle.layout.specs.declared.Table.{Table}
-use Rattle.layout.specs.declared.Verdict.TheVariants.{Accepted}
 use Rattle.limits.specs.Limits.{acceptable}
-use Rattle.layout.specs.Answers.{verdict}
+use Rattle.layout.specs.Answers.{accepted, verdict}
+use Rattle.std.proofs.Common.{[]}
 use Rattle.layout.proofs.Questions.{all_yes}
 use Rattle.rule.specs.Questions.{width_good, height_good, place_good}
 use Rattle.rule.specs.Sums.{HasBits, sample_at}
@@ -23,7 +18,7 @@ pub record Accepts (t : Table) (l : ℕ) (xs : List ℕ) (r c : ℕ) : Type 0 wh
   pub place : place_good l (length xs) r c ≡ true
   pub bits : HasBits t.b (sample_at l xs)
 
-pub accepts : (t : Table) (l : ℕ) (xs : List ℕ) (r c : ℕ) → verdict (pixel_asks t l xs r c) ≡ Accepted → Accepts t l xs r c
+pub accepts : (t : Table) (l : ℕ) (xs : List ℕ) (r c : ℕ) → verdict (pixel_asks t l xs r c) ≡ accepted [] → Accepts t l xs r c
 unfolding pixel_asks
 accepts t l xs r c e =
     let y = all_yes (pixel_asks t l xs r c) e in

@@ -1,14 +1,12 @@
 -- What the one-pixel call answers is known by what it says.
 -- Assumes nothing.
-use native.Mathlib.Omega.{arith}
-use mathlib.Core.Path.{◌≡◌, ap}
-use Rattle.layout.proofs.Answers.{same_refusal, same_value}
-use Rattle.pixel.specs.declared.Found.{Found}
-use Rattle.pixel.specs.declared.Found.TheVariants.{Pixel, Refused}
+use Rattle.std.proofs.Common.{◌≡◌, [], ◌∷◌, List, ℤ, Result}
+use Rattle.layout.specs.declared.asking.Refusal.{Refusal}
+use Rattle.layout.proofs.Answers.{result_injective}
 use Rattle.pixel.specs.Call.{found_said}
 
-pub found_injective : (f g : Found) → found_said f ≡ found_said g → f ≡ g
-found_injective (Pixel p) (Pixel q) e = ap Pixel (same_value e)
-found_injective (Pixel p) (Refused m q) e = absurd (let z = ap (λ s. s.kind) e in omega arith)
-found_injective (Refused n p) (Pixel q) e = absurd (let z = ap (λ s. s.kind) e in omega arith)
-found_injective (Refused n p) (Refused m q) e = same_refusal Refused e
+same_pixel : (p q : ℤ) → ◌≡◌ {A = List ℤ} (p ∷ []) (q ∷ []) → p ≡ q
+same_pixel p q e = cc
+
+pub found_injective : (f g : Result ℤ Refusal) → found_said f ≡ found_said g → f ≡ g
+found_injective f g e = result_injective (λ p. p ∷ []) same_pixel f g e

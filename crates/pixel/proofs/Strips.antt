@@ -1,6 +1,6 @@
 -- V: the definitions give every marked strip.
 -- Assumes nothing.
-use lib.Dec.{T}
+use Rattle.std.proofs.Common.{T}
 use Rattle.arith.specs.Sum.{sum, sum_ℤ}
 use Rattle.arith.specs.All.{all}
 use Rattle.arith.specs.First.{first_not}

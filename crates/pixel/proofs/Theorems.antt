@@ -1,12 +1,6 @@
 -- Demand 3, whole; and question 10 of a file without drops, exactly.
 -- Assumes nothing.
-use Prim.Native.Nat.{ℕ}
-use mathlib.Core.Path.{◌≡◌, refl, sym, ap, ◌∙◌}
-use mathlib.Core.Bool.{true}
-use mathlib.Core.List.{List}
-use mathlib.Core.Logic.{◌↔◌}
-use lib.Dec.{eqb}
-use lib.IntN.{pos}
+use Rattle.std.proofs.Common.{ℕ, ◌≡◌, refl, sym, ap, ◌∙◌, true, List, ◌↔◌, eqb, pos}
 use Rattle.layout.specs.declared.Table.{Table}
 use Rattle.arith.proofs.Bools.{true_of}
 use Rattle.layout.specs.Contents.{Contents, contents, table_of}

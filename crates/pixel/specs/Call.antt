@@ -1,19 +1,17 @@
 -- The one-pixel call.
 -- Assumes nothing.
-use Rattle.std.specs.Prelude.{ℕ, ◌-◌, ◌^◌, List, [], ◌∷◌, length, pos}
+use Rattle.std.specs.Prelude.{ℕ, ◌-◌, ◌^◌, List, [], ◌∷◌, length, ℤ, pos, Result}
 use Rattle.layout.specs.declared.Table.{Table}
-use Rattle.layout.specs.Answers.{Said, refused, accepted, Question, asks, asks_each, first_no}
+use Rattle.layout.specs.declared.asking.Refusal.{Refusal}
+use Rattle.layout.specs.Answers.{Said, refused, accepted, result_said, Question, asks, asks_each, first_no}
 use Rattle.limits.specs.Limits.{acceptable}
 use Rattle.rule.specs.Questions.{width_good, height_good, place_good, sample_good}
 use Rattle.rule.specs.Sums.{sample_at}
 use Rattle.rule.specs.Pixels.{pixel_of}
-use Rattle.pixel.specs.declared.Found.{Found}
-use Rattle.pixel.specs.declared.Found.TheVariants.{Pixel, Refused as NoPixel}
 
 -- an answer in the rules' numbers
-abbrev pub found_said : Found → Said
-found_said (Pixel p) = accepted (p ∷ [])
-found_said (NoPixel number place) = refused number place
+abbrev pub found_said : Result ℤ Refusal → Said
+found_said v = result_said (λ p. p ∷ []) v
 
 -- its questions: 11, 12, 17, 20, 18
 unfoldable pub pixel_asks : Table → (l : ℕ) → List ℕ → (r c : ℕ) → List Question

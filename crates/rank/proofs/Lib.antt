@@ -1,3 +1,3 @@
 pub mod States
-pub mod Rooms
-pub mod Lefts
+pub mod Filters
+pub mod Faces

@@ -7,14 +7,11 @@ use lib.Dec.{T, leb, eqb, leb→le}
 use mir.Facts.{and_yes}
 use borrow.Author.Tests.{leb-true}
 use Rattle.arith.proofs.Bools.{true_of}
-use Rattle.layout.specs.declared.Verdict.TheVariants.{Accepted}
-use Rattle.layout.specs.Answers.{verdict}
-use Rattle.layout.proofs.Questions.{all_yes}
 use Rattle.limits.specs.Limits.{bits_good, rect_good}
 use Rattle.rule.specs.Questions.{width_good}
 use Rattle.rank.specs.declared.Window.{Window}
 use Rattle.rank.specs.declared.RankScan.{RankScan}
-use Rattle.rank.specs.Calls.{rect_of, rank_delay, rank_good, window_good, agrees, stores_good, start_asks}
+use Rattle.rank.specs.Calls.{rect_of, rank_delay, rank_good, window_good, agrees, stores_good}
 
 -- a window that questions 3, 23, 8 and 22 accept
 pub record Windowed (w : Window) (b rank : ℕ) : Type 0 where
@@ -69,14 +66,3 @@ stores_bounds l samples counts windows e =
     let h = and_yes (leb (32 * l) samples) (leb (256 * l) counts && leb 256 windows) (subst T (sym e) tt) in
     let i = and_yes (leb (256 * l) counts) (leb 256 windows) h.1 in
     (leb→le (32 * l) samples h.0, leb→le (256 * l) counts i.0, leb→le 256 windows i.1)
-
--- an accepted start
-pub record Begins (l samples counts windows : ℕ) : Type 0 where
-  pub width : width_good l ≡ true
-  pub stores : stores_good l samples counts windows ≡ true
-
-pub begins : (b : ℕ) (w : Window) (rank l samples counts windows : ℕ) → verdict (start_asks b w rank l samples counts windows) ≡ Accepted
-    → Begins l samples counts windows
-unfolding start_asks
-begins b w rank l samples counts windows e =
-    let y = all_yes (start_asks b w rank l samples counts windows) e in record { width = y.1.1.1.1.0; stores = y.1.1.1.1.1.0 }

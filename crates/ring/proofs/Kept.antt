@@ -1,17 +1,7 @@
 -- The sample store of a scan: the last 32 arrivals, each in its place.
 -- Assumes nothing.
-use Prim.Native.Nat.{ℕ, suc, ◌+◌, ◌*◌, ◌%◌, ◌≤◌, ◌<◌}
-use native.Mathlib.Nat.{mod-lt, div-add-mod, mul-le-mul_right, not-suc-le-zero, le-suc_iff, suc_inj, lt_irrefl, eq-or-lt_of_le}
-use native.Mathlib.Numerals.{add-one}
-use native.Mathlib.Omega.{arith}
-use mathlib.Core.Path.{◌≡◌, refl, sym, ap, ◌∙◌, subst}
-use mathlib.Core.Bool.{Bool, true, false, not, cond}
-use mathlib.Core.Logic.{⊎_elim}
-use mathlib.Core.List.{List}
-use lib.Dec.{T, ltb, eqb, ltb→lt, nltb→le}
-use lib.IntN.{ℤ, pos, negsuc}
-use lib.ListN.{length, get_or}
-use borrow.Author.Tests.{eq-eqb, ne_eqb}
+use Rattle.std.proofs.Common.{ℕ, suc, ◌+◌, ◌*◌, ◌%◌, ◌≤◌, ◌<◌, mod-lt, mul-le-mul_right, not-suc-le-zero, lt_irrefl, eq-or-lt_of_le, add-one, arith, ◌≡◌, refl, sym, ap, ◌∙◌, subst, Bool, true, false, not, cond, ⊎_elim, List, T, ltb, eqb, ltb→lt, nltb→le, ℤ, pos, negsuc, length, get_or, eq-eqb, ne_eqb}
+use Rattle.std.proofs.Math.Nat.{div-add-mod, le-suc_iff, suc_inj}
 use Rattle.arith.specs.Tab.{paste}
 use Rattle.arith.proofs.Pastes.{paste_before, paste_in, paste_after}
 use Rattle.ring.specs.Ring.{row_at, Kept}

@@ -1,11 +1,6 @@
 -- Demand 3's three parts, for any table, scan and place.
 -- Assumes nothing.
-use Prim.Native.Nat.{ℕ, zero, suc, ◌+◌, ◌*◌, ◌^◌, ◌≤◌}
-use native.Mathlib.Nat.{mul-le-mul_left}
-use native.Mathlib.Omega.{arith}
-use mathlib.Core.Path.{◌≡◌, refl, ap, ◌∙◌}
-use lib.IntN.{ℤ, pos, ◌-ℤ◌, ◌*ℤ◌}
-use lib.Pow.{pow_pos}
+use Rattle.std.proofs.Common.{ℕ, zero, suc, ◌+◌, ◌*◌, ◌^◌, ◌≤◌, mul-le-mul_left, arith, ◌≡◌, refl, ap, ◌∙◌, ℤ, pos, ◌-ℤ◌, ◌*ℤ◌, pow_pos}
 use Rattle.arith.specs.Sum.{sum, sum_ℤ}
 use Rattle.arith.specs.Part.{pos_part, neg_part}
 use Rattle.arith.specs.Diff.{Diff}

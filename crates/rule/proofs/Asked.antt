@@ -1,15 +1,8 @@
 -- Laws of the questions.
 -- Assumes nothing.
-use Prim.Native.Nat.{ℕ, ◌+◌, ◌-◌, ◌*◌, ◌/◌, ◌^◌, ◌≤◌, ◌<◌, zero-le}
-use native.Mathlib.Nat.{mul-le-mul}
-use native.Mathlib.Omega.{arith}
-use mathlib.Core.Path.{◌≡◌, sym, subst}
-use mathlib.Core.Bool.{Bool, true, false, not, cond, ◌&&◌}
-use mathlib.Core.List.{List}
-use lib.ListN.{length, get_or, get_or-eq_default}
-use lib.IntN.{pos, negsuc}
-use lib.Dec.{T, leb, ltb, eqb, leb→le, ltb→lt, nltb→le, eqb→eq}
-use mir.Facts.{and_yes}
+use Rattle.std.proofs.Common.{ℕ, ◌+◌, ◌-◌, ◌*◌, ◌/◌, ◌^◌, ◌≤◌, ◌<◌, zero-le, mul-le-mul, arith, ◌≡◌, sym, subst, Bool, true, false, not, cond, ◌&&◌, List, length, get_or, pos, negsuc, T, leb, ltb, eqb, leb→le, ltb→lt, nltb→le, eqb→eq}
+use Rattle.std.proofs.Math.ListN.{get_or-eq_default}
+use Rattle.std.proofs.Math.Facts.{and_yes}
 use Rattle.arith.specs.All.{all}
 use Rattle.arith.proofs.Alls.{all_at}
 use Rattle.rule.specs.Mended.{mended_at}

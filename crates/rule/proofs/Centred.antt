@@ -1,14 +1,7 @@
 -- A scan of 31 by 31 samples, seen from its centre: the samples that the pixel there takes by the offsets of the weight grid.
 -- Assumes nothing.
-use Prim.Native.Nat.{ℕ, ◌+◌, ◌*◌, ◌/◌, ◌%◌, ◌≤◌, ◌<◌}
-use native.Mathlib.Nat.{div-add-mod, mod-lt}
-use native.Mathlib.Omega.{arith}
-use mathlib.Core.Path.{◌≡◌, sym, ap, ◌∙◌, subst}
-use mathlib.Core.Bool.{true}
-use mathlib.Core.List.{[], append-nil}
-use lib.IntN.{pos, ◌+ℤ◌}
-use lib.ListN.{length, get_or}
-use borrow.Author.Tests.{lt-ltb}
+use Rattle.std.proofs.Common.{ℕ, ◌+◌, ◌*◌, ◌/◌, ◌%◌, ◌≤◌, ◌<◌, mod-lt, arith, ◌≡◌, sym, ap, ◌∙◌, subst, true, [], append-nil, pos, ◌+ℤ◌, length, get_or, lt-ltb}
+use Rattle.std.proofs.Math.Nat.{div-add-mod}
 use Rattle.arith.specs.All.{all}
 use Rattle.arith.specs.Tab.{grid}
 use Rattle.arith.proofs.Alls.{all_of}

@@ -1,10 +1,6 @@
 -- A place is covered exactly when it lies above the trail edge and not above the lead edge.
 -- Assumes nothing.
-use Prim.Native.Nat.{ℕ, suc, ◌+◌, ◌-◌, ◌<◌}
-use native.Mathlib.Omega.{arith}
-use mathlib.Core.Path.{subst}
-use mathlib.Core.Logic.{◌↔◌}
-use lib.IntN.{ℤ, neg_ℤ, ◌-ℤ◌}
+use Rattle.std.proofs.Common.{ℕ, suc, ◌+◌, ◌-◌, ◌<◌, arith, subst, ◌↔◌, ℤ, neg_ℤ, ◌-ℤ◌}
 use Rattle.arith.specs.Part.{pos_part, neg_part}
 use Rattle.arith.proofs.Ints.{diff_parts, diff_pos, diff_add, diff_minus, diff_negate, diff_pos_part, diff_le, diff_lt, le_diff, lt_diff, diff_eq}
 use Rattle.layout.specs.declared.Rect.{Rect}

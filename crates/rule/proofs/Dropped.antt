@@ -1,11 +1,7 @@
 -- What the cuts drop: the full sum is the cut sum scaled back and the weighted total of the remainders.
 -- Assumes nothing.
-use Prim.Native.Nat.{ℕ, ◌+◌, ◌-◌, ◌*◌, ◌%◌, ◌^◌, ◌≤◌}
-use native.Mathlib.Nat.{div-add-mod, mul-le-mul_left}
-use native.Mathlib.Omega.{arith}
-use mathlib.Core.Path.{◌≡◌, ap, ◌∙◌}
-use lib.IntN.{ℤ}
-use lib.Pow.{pow-add}
+use Rattle.std.proofs.Common.{ℕ, ◌+◌, ◌-◌, ◌*◌, ◌%◌, ◌^◌, ◌≤◌, mul-le-mul_left, arith, ◌≡◌, ap, ◌∙◌, ℤ, pow-add}
+use Rattle.std.proofs.Math.Nat.{div-add-mod}
 use Rattle.arith.specs.Sum.{sum}
 use Rattle.arith.proofs.Sums.{sum_cong, sum-add, sum_scale, sum_bound}
 use Rattle.arith.proofs.Cut.{rem_le, sum_cut}

@@ -1,14 +1,8 @@
 -- The words that sums and pixels fit, on a table that loading accepts and samples of b bits.
 -- Assumes nothing.
-use Prim.Native.Nat.{ℕ, suc, ◌+◌, ◌-◌, ◌*◌, ◌/◌, ◌^◌, ◌≤◌, ◌<◌}
-use native.Mathlib.Nat.{mul-le-mul, mul-le-mul_left, le_trans, lt_of_le_of_lt}
-use native.Mathlib.Omega.{arith}
-use mathlib.Core.Path.{◌≡◌, refl, sym, ap, ◌∙◌, subst}
-use mathlib.Core.Bool.{Bool, true, false}
-use lib.Dec.{T, leb, ltb, leb→le, ltb→lt, le→leb, lt→ltb}
-use lib.IntN.{ℤ, pos, negsuc, ◌+ℤ◌, ◌*ℤ◌}
-use lib.Pow.{pow-add, pow_pos, pow_mono, shr_lt, shr_mono, shl-shr, le_ones, lt_of_le_ones, suc_ones}
-use mir.Facts.{and_yes}
+use Rattle.std.proofs.Common.{ℕ, suc, ◌+◌, ◌-◌, ◌*◌, ◌/◌, ◌^◌, ◌≤◌, ◌<◌, mul-le-mul, mul-le-mul_left, le_trans, lt_of_le_of_lt, arith, ◌≡◌, refl, sym, ap, ◌∙◌, subst, Bool, true, false, T, leb, ltb, leb→le, ltb→lt, le→leb, lt→ltb, ℤ, pos, negsuc, ◌+ℤ◌, ◌*ℤ◌, pow-add, pow_pos, pow_mono, shr_lt, lt_of_le_ones}
+use Rattle.std.proofs.Math.Pow.{shr_mono, shl-shr, le_ones, suc_ones}
+use Rattle.std.proofs.Math.Facts.{and_yes}
 use Rattle.arith.specs.Sum.{sum, sum_ℤ}
 use Rattle.arith.specs.Part.{pos_part, neg_part}
 use Rattle.arith.specs.Diff.{Diff}

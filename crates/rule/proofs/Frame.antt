@@ -1,9 +1,7 @@
 -- Places in a frame with a margin, in which they stay natural, are the places of the signed rule.
 -- Assumes nothing.
-use Prim.Native.Nat.{ℕ, suc, ◌+◌}
-use native.Mathlib.Omega.{arith}
-use mathlib.Core.Path.{◌≡◌}
-use lib.IntN.{ℤ, pos, sub_ℕ}
+use Rattle.std.proofs.Common.{ℕ, suc, ◌+◌, arith, ◌≡◌, ℤ, pos}
+use Rattle.std.proofs.Math.IntN.{sub_ℕ}
 use Rattle.arith.specs.Diff.{Diff}
 use Rattle.arith.proofs.Ints.{diff_pos, diff_sub, diff_add, diff_eq}
 use Rattle.rule.specs.Sums.{covered}

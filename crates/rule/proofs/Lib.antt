@@ -11,3 +11,4 @@ pub mod Frame
 pub mod Covers
 pub mod Slides
 pub mod Steps
+pub mod Searches

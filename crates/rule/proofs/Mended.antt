@@ -1,16 +1,9 @@
 -- Laws of mended rows.
 -- Assumes nothing.
-use Prim.Native.Nat.{ℕ, zero, suc, ◌+◌, ◌-◌, ◌≤◌, ◌<◌, zero-le, min}
-use native.Mathlib.Nat.{le_refl, le_step, eq-or-lt_of_le, not-suc-le-zero}
-use native.Mathlib.Omega.{arith}
-use mathlib.Core.Path.{◌≡◌, refl, sym, ap, ap₂, ◌∙◌, subst}
-use mathlib.Core.Logic.{⊎_elim}
-use mathlib.Core.Bool.{Bool, true, false, not, cond, ◌||◌}
-use mathlib.Core.List.{List, ◌++◌}
-use lib.Dec.{T, leb, eqb, leb→le, nleb→lt}
-use lib.ListN.{length, get_or, take, drop, drop_of_length-le}
-use lib.Seq.{take_all, take_at}
-use borrow.Author.Tests.{le-leb, eq-eqb, ne_eqb}
+use Rattle.std.proofs.Common.{ℕ, zero, suc, ◌+◌, ◌-◌, ◌≤◌, ◌<◌, zero-le, min, le_refl, eq-or-lt_of_le, not-suc-le-zero, arith, ◌≡◌, refl, sym, ap, ap₂, ◌∙◌, subst, ⊎_elim, Bool, true, false, not, cond, ◌||◌, List, ◌++◌, T, leb, eqb, leb→le, length, get_or, take, drop, drop_of_length-le, take_all, take_at, le-leb, eq-eqb, ne_eqb}
+use Rattle.std.proofs.Math.Nat.{le_step}
+use Rattle.std.proofs.Math.Dec.{nleb→lt}
+use Rattle.std.proofs.lemmas.List.{length-take-le, get_or-take}
 use Rattle.arith.specs.Tab.{tab}
 use Rattle.arith.proofs.Tabs.{length-tab, get_or-tab, tab_cong, tab-get_or, tab-append}
 use Rattle.rule.specs.Mended.{dead, mended_at, mended, Nearest}
@@ -143,6 +136,18 @@ mended_part line row n e = go (leb (length row) (length line)) (leb→le (length
         ∙ ap (take (length line)) (tab-append (length line) (length row - length line) (mended_at (λ k. get_or row k 0)))
         ∙ take_at (tab (length line) (mended_at (λ k. get_or row k 0))) _ (length line) (length-tab (length line) (mended_at (λ k. get_or row k 0)))))
         (drop_of_length-le line {i = n} (omega arith) ∙ sym (drop_of_length-le line {i = length row} (omega arith)))
+
+-- as many places of a row as the line has, mended by themselves
+pub mended_places :
+    (line row : List ℕ) (n : ℕ) → n ≡ min (length line) (length row)
+    → mended (take n row) ++ drop n line ≡ take (length line) (mended row) ++ drop (length row) line
+unfolding mended
+mended_places line row n e =
+    let l : length (take n row) ≡ n = length-take-le n row (omega arith) in
+    ap (λ xs. xs ++ drop n line)
+    (ap (λ m. tab m (mended_at (λ k. get_or (take n row) k 0))) l
+    ∙ tab_cong n (λ k h. mended_cong (λ j. get_or (take n row) j 0) (λ j. get_or row j 0) k (λ j i. get_or-take n row j 0 (omega arith))))
+    ∙ mended_part line row n e
 
 -- the first places of a line that took a mended row of their number
 pub mended_line :

@@ -1,16 +1,6 @@
 -- Question 10 of a table without drops, exactly: its extremes are the centre values of two scans, and no scan passes them.
 -- Assumes nothing.
-use Prim.Native.Nat.{ℕ, zero, suc, ◌-◌, ◌*◌, ◌^◌, ◌≤◌, ◌<◌, zero-le}
-use native.Mathlib.Omega.{arith}
-use mathlib.Core.Path.{◌≡◌, refl, sym, ap, ◌∙◌, subst}
-use mathlib.Core.Bool.{Bool, true, false, cond, ◌&&◌}
-use mathlib.Core.List.{List}
-use mathlib.Core.Logic.{◌↔◌}
-use lib.Dec.{T, ltb}
-use lib.IntN.{ℤ, pos, negsuc, neg_ℤ, ◌+ℤ◌}
-use lib.ListN.{length}
-use lib.Pow.{pow_mono}
-use borrow.Author.Tests.{lt-ltb}
+use Rattle.std.proofs.Common.{ℕ, zero, suc, ◌-◌, ◌*◌, ◌^◌, ◌≤◌, ◌<◌, zero-le, arith, ◌≡◌, refl, sym, ap, ◌∙◌, subst, Bool, true, false, cond, ◌&&◌, List, ◌↔◌, T, ltb, ℤ, pos, negsuc, neg_ℤ, ◌+ℤ◌, length, pow_mono, lt-ltb}
 use Rattle.arith.specs.All.{all}
 use Rattle.arith.specs.Floor.{floor_div}
 use Rattle.arith.specs.Part.{pos_part, neg_part}

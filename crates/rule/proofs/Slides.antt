@@ -1,9 +1,6 @@
 -- A sum over covered places moves on by one place: the first term leaves, the one after the last enters.
 -- Assumes nothing.
-use Prim.Native.Nat.{ℕ, suc, ◌+◌, ◌/◌, ◌^◌, ◌≤◌}
-use native.Mathlib.Omega.{arith}
-use mathlib.Core.Path.{◌≡◌, ap}
-use lib.IntN.{ℤ, pos, ◌+ℤ◌, ◌-ℤ◌}
+use Rattle.std.proofs.Common.{ℕ, suc, ◌+◌, ◌/◌, ◌^◌, ◌≤◌, arith, ◌≡◌, ap, ℤ, pos, ◌+ℤ◌, ◌-ℤ◌}
 use Rattle.arith.specs.Sum.{sum}
 use Rattle.arith.specs.Part.{pos_part}
 use Rattle.arith.proofs.Sums.{sum_cong, sum-suc, sum_first}

@@ -1,10 +1,6 @@
 -- The two steps of a carried sum lead to the sum of the next place, and fit its word.
 -- Assumes nothing.
-use Prim.Native.Nat.{ℕ, ◌+◌, ◌-◌, ◌/◌, ◌^◌, ◌≤◌, ◌<◌}
-use native.Mathlib.Omega.{arith}
-use mathlib.Core.Path.{◌≡◌, ap}
-use mathlib.Core.Bool.{true}
-use lib.IntN.{ℤ, pos, ◌+ℤ◌}
+use Rattle.std.proofs.Common.{ℕ, ◌+◌, ◌-◌, ◌/◌, ◌^◌, ◌≤◌, ◌<◌, arith, ◌≡◌, ap, true, ℤ, pos, ◌+ℤ◌}
 use Rattle.arith.proofs.Sums.{term_le_sum}
 use Rattle.layout.specs.declared.Rect.{Rect}
 use Rattle.layout.specs.declared.Table.{Table}
@@ -13,8 +9,7 @@ use Rattle.layout.specs.Measure.{rows_of, cols_of}
 use Rattle.limits.specs.Limits.{acceptable}
 use Rattle.limits.proofs.Granted.{granted}
 use Rattle.rule.specs.Sums.{Image, HasBits, covered, column_sum, window_sum}
-use Rattle.rule.specs.Steps.{leaving_sample, entering_sample, column_less, column_next}
-use Rattle.rule.specs.Steps.{leaving_column, entering_column, window_less, window_next, StepWords}
+use Rattle.rule.specs.Steps.{leaving_sample, entering_sample, column_less, column_next, leaving_column, entering_column, window_less, window_next, StepWords}
 use Rattle.rule.proofs.Fitting.{column_fits, window_fits}
 use Rattle.rule.proofs.Slides.{leaving_place, entering_place, column_slide, window_slide}
 

@@ -1,5 +1,5 @@
-// The pixel rule: mended rows, what a pixel is, how far the cut sums are from the full ones, and the words that the sums
-// fit. The definitions stand in specs/, the theorems in proofs/.
+//! The pixel rule: mended rows, what a pixel is, how far the cut sums are from the full ones, and the words that the sums
+//! fit. The definitions stand in specs/, the theorems in proofs/.
 #![tactic(auto)]
 
 mod above;

@@ -1,15 +1,11 @@
 -- What the call answers is known by what it says.
 -- Assumes nothing.
-use native.Mathlib.Omega.{arith}
-use mathlib.Core.Path.{◌≡◌, refl, sym, ap, ap₂}
-use mathlib.Core.List.{List, [], ◌∷◌}
-use lib.IntN.{ℤ}
-use lib.ListN.{length}
+use Rattle.std.proofs.Common.{◌≡◌, refl, ap, ap₂, List, [], ◌∷◌, ℤ, length, arith, Option, None, Some, Result}
+use Rattle.layout.specs.declared.asking.Refusal.{Refusal}
 use Rattle.layout.specs.Answers.{accepted}
-use Rattle.layout.proofs.Answers.{same_refusal}
-use Rattle.same.specs.declared.Sameness.{Sameness}
-use Rattle.same.specs.declared.Sameness.TheVariants.{Same, Differs, Refused}
-use Rattle.same.specs.Same.{sameness_said}
+use Rattle.layout.proofs.Answers.{result_injective}
+use Rattle.same.specs.declared.Offset.{Offset}
+use Rattle.same.specs.Same.{offset_values, sameness_said}
 
 -- no value, and two values
 pub none_two : {y z : ℤ} → accepted [] ≡ accepted (y ∷ z ∷ []) → ⊥
@@ -18,13 +14,12 @@ none_two e = let n = ap (λ s. length s.values) e in omega arith
 pub two_values : {x y z w : ℤ} → accepted (x ∷ y ∷ []) ≡ accepted (z ∷ w ∷ []) → (x ≡ z) × (y ≡ w)
 two_values {x} {y} {z} {w} e = let v : ◌≡◌ {A = List ℤ} (x ∷ y ∷ []) (z ∷ w ∷ []) = ap (λ s. s.values) e in (cc, cc)
 
-pub sameness_injective : (r s : Sameness) → sameness_said r ≡ sameness_said s → r ≡ s
-sameness_injective Same Same e = refl
-sameness_injective Same (Differs y z) e = absurd (none_two e)
-sameness_injective Same (Refused n p) e = absurd (let z = ap (λ s. s.kind) e in omega arith)
-sameness_injective (Differs y z) Same e = absurd (none_two (sym e))
-sameness_injective (Differs y z) (Differs v w) e = let t = two_values e in ap₂ Differs t.0 t.1
-sameness_injective (Differs y z) (Refused n p) e = absurd (let z = ap (λ s. s.kind) e in omega arith)
-sameness_injective (Refused n p) Same e = absurd (let z = ap (λ s. s.kind) e in omega arith)
-sameness_injective (Refused n p) (Differs y z) e = absurd (let z = ap (λ s. s.kind) e in omega arith)
-sameness_injective (Refused n p) (Refused m q) e = same_refusal Refused e
+same_offset : (o p : Option Offset) → offset_values o ≡ offset_values p → o ≡ p
+same_offset None None e = refl
+same_offset None (Some p) e = absurd (let n = ap (λ l. length l) e in omega arith)
+same_offset (Some o) None e = absurd (let n = ap (λ l. length l) e in omega arith)
+same_offset (Some o) (Some p) e =
+    let t = two_values (ap accepted e) in ap Some (ap₂ (λ r c. record { row = r; col = c }) t.0 t.1)
+
+pub sameness_injective : (r s : Result (Option Offset) Refusal) → sameness_said r ≡ sameness_said s → r ≡ s
+sameness_injective r s e = result_injective offset_values same_offset r s e

@@ -1,19 +1,8 @@
--- M-106: two tables do the same exactly when their weights are equal, and where not the scan that is handed out shows it.
+-- Two tables do the same exactly when their weights are equal, and where not the scan that is handed out shows it.
 -- Assumes nothing.
-use Prim.Native.Nat.{ℕ, ◌+◌, ◌-◌, ◌*◌, ◌/◌, ◌%◌, ◌^◌, ◌≤◌, ◌<◌}
-use native.Mathlib.Nat.{div-add-mod, mod-lt, eq_of_mul-eq-mul_right}
-use native.Mathlib.Omega.{arith}
-use mathlib.Core.Path.{◌≡◌, refl, sym, ap, ap₂, ◌∙◌, subst}
-use mathlib.Core.Bool.{Bool, true, false, not, cond, ◌&&◌}
-use mathlib.Core.List.{List, [], ◌∷◌}
-use mathlib.Core.Logic.{◌≢◌}
-use lib.Dec.{T, eqb, ltb, eqb→eq, leb→le, ltb→lt, nltb→le}
-use lib.IntN.{ℤ, pos, ◌+ℤ◌, ◌*ℤ◌}
-use lib.ListN.{length, take, drop}
-use lib.Pow.{pow_mono}
-use lib.Seq.{take_at}
-use mir.Facts.{and_yes}
-use borrow.Author.Tests.{le-ltb, le-leb}
+use Rattle.std.proofs.Common.{ℕ, ◌+◌, ◌-◌, ◌*◌, ◌/◌, ◌%◌, ◌^◌, ◌≤◌, ◌<◌, mod-lt, arith, ◌≡◌, refl, sym, ap, ap₂, ◌∙◌, subst, Bool, true, false, not, cond, ◌&&◌, List, [], ◌∷◌, ◌≢◌, T, eqb, ltb, eqb→eq, leb→le, ltb→lt, nltb→le, ℤ, pos, ◌+ℤ◌, ◌*ℤ◌, length, take, drop, pow_mono, take_at, le-ltb, le-leb}
+use Rattle.std.proofs.Math.Nat.{div-add-mod, eq_of_mul-eq-mul_right}
+use Rattle.std.proofs.Math.Facts.{and_yes}
 use Rattle.arith.specs.Floor.{floor_div}
 use Rattle.arith.specs.Part.{pos_part, neg_part}
 use Rattle.arith.specs.Sum.{sum}

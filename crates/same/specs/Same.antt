@@ -1,22 +1,25 @@
--- M-106: whether two tables do the same.
+-- Whether two tables do the same.
 -- Assumes nothing.
-use Rattle.std.specs.Prelude.{ℕ, ◌-◌, ◌/◌, ◌%◌, ◌^◌, Bool, cond, ◌&&◌, List, [], ◌∷◌, ◌++◌, leb, ltb, eqb, length, drop, ℤ}
+use Rattle.std.specs.Prelude.{ℕ, ◌-◌, ◌/◌, ◌%◌, ◌^◌, Bool, cond, ◌&&◌, List, [], ◌∷◌, ◌++◌, leb, ltb, eqb, length, drop, ℤ, Option, None, Some, Result}
 use Rattle.arith.specs.Equal.{eq_z}
 use Rattle.arith.specs.First.{first_not}
 use Rattle.arith.specs.Tab.{grid}
 use Rattle.layout.specs.declared.Table.{Table}
 use Rattle.layout.specs.Contents.{contents, rect}
-use Rattle.layout.specs.Answers.{Said, refused, accepted, Question, asks, first_no, Wrote, wrote}
+use Rattle.layout.specs.Answers.{Said, refused, accepted, result_said, Question, asks, first_no, Wrote, wrote}
 use Rattle.grid.specs.Grid.{offset, grid_at}
 use Rattle.limits.specs.Limits.{no_drops, acceptable}
-use Rattle.same.specs.declared.Sameness.{Sameness}
-use Rattle.same.specs.declared.Sameness.TheVariants.{Same, Differs, Refused as NotCompared}
+use Rattle.layout.specs.declared.asking.Refusal.{Refusal}
+use Rattle.same.specs.declared.Offset.{Offset}
+
+-- the values of an offset: none, or its row and its column
+abbrev pub offset_values : Option Offset → List ℤ
+offset_values None = []
+offset_values (Some o) = o.row ∷ o.col ∷ []
 
 -- an answer in the rules' numbers: same, with no value; or differs, with the row and the column of the offset
-abbrev pub sameness_said : Sameness → Said
-sameness_said Same = accepted []
-sameness_said (Differs row col) = accepted (row ∷ col ∷ [])
-sameness_said (NotCompared number place) = refused number place
+abbrev pub sameness_said : Result (Option Offset) Refusal → Said
+sameness_said v = result_said offset_values v
 
 -- ---- its questions
 

@@ -1,14 +1,14 @@
-// The weight grids of two tables, offset by offset: top row first, left to right.
-ghost use Rattle.std.specs.Prelude.{◌≡◌, ◌≤◌, ◌<◌};
+//! The weight grids of two tables, offset by offset: top row first, left to right.
+ghost use Rattle.std.specs.Prelude.{◌≡◌, ◌<◌, unwrap_or, IfSome};
 ghost use Rattle.same.specs.Same.{alike_at, first_unlike};
 
 use grid::entry;
 use layout::Table;
 
-// Whether the weights are equal at offset k of 961.
-fn alike(one: Table, other: Table, k: usize) -> bool
-    requires { (one.count ≤ 16) × (other.count ≤ 16) × (k < 961) }
-    ensures { result ≡ alike_at one other k }
+/// Whether the weights are equal at offset k of 961.
+fn alike(one: &Table, other: &Table, k: usize) -> bool
+    requires { k < 961 }
+    ensures { result ≡ alike_at one.now other.now k }
 {
     let a = (k / 31) as u32;
     let b = (k % 31) as u32;
@@ -17,17 +17,15 @@ fn alike(one: Table, other: Table, k: usize) -> bool
     x.high + y.low == y.high + x.low
 }
 
-// The first offset where they are not, or 961.
-pub fn first_unlike(one: Table, other: Table) -> usize
-    requires { (one.count ≤ 16) × (other.count ≤ 16) }
-    ensures { result ≡ first_unlike one other }
+/// The first offset where they are not.
+pub fn first_unlike(one: &Table, other: &Table) -> Option<usize>
+    ensures first { unwrap_or result 961 ≡ first_unlike one.now other.now }
+    ensures inside { IfSome result (λ k. k < 961) }
 {
-    let mut k = 0;
-    while k < 961 {
+    for k in 0..961 {
         if !alike(one, other, k) {
-            return k;
+            return Some(k);
         }
-        k += 1;
     }
-    k
+    None
 }

@@ -1,2 +1,3 @@
 pub mod Offsets
 pub mod Said
+pub mod Written

@@ -1,91 +1,95 @@
-// The line that is printed.
-ghost use Rattle.std.specs.Prelude.{◌++◌, ◌+◌, ◌≤◌, length};
+//! The line that is printed.
+ghost use Rattle.std.specs.Prelude.{◌≡◌, Some};
+ghost use Rattle.layout.specs.Questions.{number_of};
 ghost use Rattle.table.specs.Format.{load_of};
-ghost use Rattle.text.specs.Text.{signed_cell, Put};
-ghost use Rattle.sametable.specs.Comparison.{InGrid, refused_text, differ_text, compared_text, second_text, comparison_of};
+ghost use Rattle.sametable.specs.Comparison.{words_text, printed, compared_text, second_text, comparison_of};
 
 use crate::weights::weight;
-use layout::{Table, Verdict};
-use refusals::put_refusal;
-use same::Sameness;
-use text::{put_bytes, put_cell, put_signed};
+use layout::{Refusal, Table};
+use refusals::sentence;
+use same::Offset;
+use std::fmt;
 
-// A word, an integer and a byte after it; the integer and the byte take 22 bytes at most.
-fn put_word(out: &mut [u8], at: usize, word: &[u8], z: i32, end: u8) -> usize
-    requires { at + length word.now + 22 ≤ length out.old }
-    ensures put { Put out.old at (word.now ++ signed_cell z end) out.new result }
-    ensures upper_bound { result ≤ at + length word.now + 22 }
-{
-    let a = put_bytes(out, at, word);
-    put_signed(out, a, z, end)
+/// The number of a refusal and the words for it.
+#[derive(Clone, Copy)]
+struct Words(Refusal);
+
+impl fmt::Display for Words {
+    ghost output = { λ w. Some (words_text (number_of w.0.question)) };
+
+    fn fmt<W: fmt::Write>(&self, f: &mut fmt::Formatter<W>) -> fmt::Result {
+        let number = self.0.question.number();
+        write!(f, "{number}: {}", sentence(number))
+    }
 }
 
-// A refusal: what is refused, the number, and the words for it.
-fn put_refused(out: &mut [u8], what: &[u8], number: u32) -> usize
-    requires { (length what.now ≤ 32) × (4096 ≤ length out.old) }
-    ensures { Put out.old 0 (refused_text what.now number) out.new result }
-{
-    let a = put_bytes(out, 0, what);
-    let a = put_cell(out, a, number as u64, b':');
-    let a = put_bytes(out, a, b" ");
-    let a = put_refusal(out, a, number);
-    put_bytes(out, a, b"\n")
+/// What two table files come to.
+#[derive(Clone, Copy, Debug, PartialEq, Eq)]
+pub enum Comparison {
+    FirstRefused(Refusal),
+    SecondRefused(Refusal),
+    Refused(Refusal),
+    Same,
+    /// the first offset where their weights differ, and the two weights there
+    Differ(Offset, i32, i32),
 }
 
-// An offset and the two weights there.
-fn put_differs(out: &mut [u8], one: Table, other: Table, row: i32, col: i32) -> usize
-    requires count_bound { (one.count ≤ 16) × (other.count ≤ 16) × (4096 ≤ length out.old) }
-    requires in_grid { InGrid row × InGrid col }
-    ensures { Put out.old 0 (differ_text one other row col) out.new result }
-{
-    let a = put_word(out, 0, b"differ at row ", row, b',');
-    let a = put_word(out, a, b" column ", col, b':');
-    let a = put_word(out, a, b" ", weight(one, row, col), b' ');
-    put_word(out, a, b"and ", weight(other, row, col), b'\n')
+impl fmt::Display for Comparison {
+    ghost output = { λ c. Some (printed c) };
+
+    fn fmt<W: fmt::Write>(&self, f: &mut fmt::Formatter<W>) -> fmt::Result {
+        match *self {
+            Comparison::FirstRefused(refusal) => writeln!(
+                f,
+                "first table refused, {}",
+                Words(refusal)
+            ),
+            Comparison::SecondRefused(refusal) => writeln!(
+                f,
+                "second table refused, {}",
+                Words(refusal)
+            ),
+            Comparison::Refused(refusal) => writeln!(f, "refused, {}", Words(refusal)),
+            Comparison::Same => writeln!(f, "same"),
+            Comparison::Differ(Offset { row, col }, one, other) => {
+                writeln!(f, "differ at row {row}, column {col}: {one} and {other}")
+            }
+        }
+    }
 }
 
-// What is said of two tables.
-fn compared(one: Table, other: Table, out: &mut [u8]) -> usize
-    requires { (one.count ≤ 16) × (other.count ≤ 16) × (4096 ≤ length out.old) }
-    ensures { Put out.old 0 (compared_text one other) out.new result }
+/// What two tables come to.
+fn compared(one: Table, other: Table) -> Comparison
+    ensures { printed result ≡ compared_text one other }
 {
     let mut scan = [0u16; 961];
-    let s = same::same(one, other, &mut scan);
-    match s {
-        Sameness::Same => put_bytes(out, 0, b"same\n"),
-        Sameness::Differs(row, col) => put_differs(out, one, other, row, col),
-        Sameness::Refused(number, _) => put_refused(out, b"refused, ", number),
+    match same::same(one, other, &mut scan) {
+        Err(refusal) => Comparison::Refused(refusal),
+        Ok(None) => Comparison::Same,
+        Ok(Some(at)) => Comparison::Differ(
+            at,
+            weight(&one, at.row, at.col),
+            weight(&other, at.row, at.col),
+        ),
     }
 }
 
-// What is said of a table and a second file.
-fn with_second(one: Table, second: &[u8], out: &mut [u8]) -> usize
-    requires { (one.count ≤ 16) × (4096 ≤ length out.old) }
-    ensures { Put out.old 0 (second_text one (load_of second.now)) out.new result }
+/// What a table and a second file come to.
+fn with_second(one: Table, second: &[u8]) -> Comparison
+    ensures { printed result ≡ second_text one (load_of second.now) }
 {
-    let loaded = table::load(second);
-    let v = loaded.verdict;
-    match v {
-        Verdict::Refused(number, _) => put_refused(out, b"second table refused, ", number),
-        Verdict::Accepted => {
-            let t = loaded.table;
-            compared(one, t, out)
-        }
+    match table::load(second) {
+        Err(refusal) => Comparison::SecondRefused(refusal),
+        Ok(other) => compared(one, other),
     }
 }
 
-// What is said of two files, from the start of out.
-pub fn compare(first: &[u8], second: &[u8], out: &mut [u8]) -> usize
-    requires { 4096 ≤ length out.old }
-    ensures { Put out.old 0 (comparison_of (load_of first.now) (load_of second.now)) out.new result }
+/// What two files come to.
+pub fn compare(first: &[u8], second: &[u8]) -> Comparison
+    ensures { printed result ≡ comparison_of (load_of first.now) (load_of second.now) }
 {
-    let loaded = table::load(first);
-    let v = loaded.verdict;
-    match v {
-        Verdict::Refused(number, _) => put_refused(out, b"first table refused, ", number),
-        Verdict::Accepted => {
-            let t = loaded.table;
-            with_second(t, second, out)
-        }
+    match table::load(first) {
+        Err(refusal) => Comparison::FirstRefused(refusal),
+        Ok(one) => with_second(one, second),
     }
 }

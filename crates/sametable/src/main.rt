@@ -1,5 +1,5 @@
-// sametable TABLE TABLE: whether two table files do the same. Prints `same`; or the first offset where their weights differ, and the
-// two weights there; or a refusal in words. A file that cannot be read is a line on standard error.
+//! sametable TABLE TABLE: whether two table files do the same. Prints `same`; or the first offset where their weights differ, and the
+//! two weights there; or a refusal in words. A file that cannot be read is a line on standard error.
 #![tactic(auto)]
 
 mod answers;
@@ -10,9 +10,9 @@ ghost use Rattle.streams.specs.Streams.{IsPrefixLen};
 use std::env::Env;
 use std::io::Write;
 use std::rt::Files;
-use streams::{Got, fail, put};
+use streams::{Got, fail, print};
 
-// The bytes of the table file that word i names, no more than loading needs.
+/// The bytes of the table file that word i names, no more than loading needs.
 fn table_file<R: Files + Env, E: Write>(
     rt: &R,
     errors: &mut E,
@@ -50,9 +50,6 @@ fn main(rt: HostRuntime) {
     if b.failed.is_some() {
         return;
     }
-    let n = a.end;
-    let m = b.end;
-    let mut page = [0u8; 4096];
-    let end = answers::compare(&first[..n], &second[..m], &mut page);
-    put(&mut rt.stdout(), &mut errors, &page[..end]);
+    let comparison = answers::compare(&first[..a.end], &second[..b.end]);
+    print(rt.alloc(), &mut rt.stdout(), &mut errors, &comparison);
 }

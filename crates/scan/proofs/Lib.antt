@@ -1,3 +1,4 @@
 pub mod States
 pub mod Rooms
-pub mod Lefts
+pub mod Filters
+pub mod Faces

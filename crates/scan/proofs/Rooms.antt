@@ -1,14 +1,7 @@
 -- What the questions before 19 tell: a row or a closing step that passes them arrives.
 -- Assumes nothing.
-use Prim.Native.Nat.{ℕ, ◌≤◌}
-use native.Mathlib.Omega.{arith}
-use mathlib.Core.Path.{◌≡◌}
-use mathlib.Core.Bool.{true}
-use mathlib.Core.List.{List}
-use lib.ListN.{length}
-use borrow.Author.Tests.{eqb-true}
-use Rattle.layout.specs.declared.Verdict.TheVariants.{Accepted}
-use Rattle.layout.specs.Answers.{verdict}
+use Rattle.std.proofs.Common.{ℕ, ◌≤◌, arith, ◌≡◌, true, List, [], length, eqb-true}
+use Rattle.layout.specs.Answers.{accepted, verdict}
 use Rattle.layout.proofs.Questions.{all_yes}
 use Rattle.rule.proofs.Asked.{width_bounds}
 use Rattle.arrival.specs.Arrivals.{Fits}
@@ -51,7 +44,7 @@ pub record Asked (s : Scan) (row samples sums out : ℕ) : Type 0 where
   pub long : row ≡ s.width
   pub lent : lent_good s samples sums out ≡ true
 
-pub asked : (s : Scan) (row : List ℕ) (samples sums out : ℕ) → verdict (row_asks s row samples sums out) ≡ Accepted → Asked s (length row) samples sums out
+pub asked : (s : Scan) (row : List ℕ) (samples sums out : ℕ) → verdict (row_asks s row samples sums out) ≡ accepted [] → Asked s (length row) samples sums out
 unfolding row_asks
 asked s row samples sums out e =
     let y = all_yes (row_asks s row samples sums out) e in

@@ -1,21 +1,16 @@
--- What the answer to question 14 and an accepted start tell.
+-- What the answer to question 14 tells.
 -- Assumes nothing.
-use Prim.Native.Nat.{ℕ, ◌≤◌}
+use Prim.Native.Nat.{◌≤◌}
 use mathlib.Core.Path.{◌≡◌, sym, subst}
 use mathlib.Core.Bool.{true, cond}
 use lib.Dec.{T, leb, eqb, leb→le}
 use mir.Facts.{and_yes}
 use Rattle.arith.proofs.Bools.{true_of}
 use Rattle.layout.specs.Measure.{delay_of}
-use Rattle.layout.specs.declared.Table.{Table}
-use Rattle.layout.specs.declared.Verdict.TheVariants.{Accepted}
 use Rattle.limits.specs.Limits.{acceptable}
-use Rattle.layout.specs.Answers.{verdict}
-use Rattle.layout.proofs.Questions.{all_yes}
 use Rattle.rule.specs.Questions.{width_good}
 use Rattle.scan.specs.declared.Scan.{Scan}
-use Rattle.arrival.specs.Arrivals.{stores_good}
-use Rattle.scan.specs.Calls.{agrees, start_asks}
+use Rattle.scan.specs.Calls.{agrees}
 
 -- a state whose numbers agree
 pub record Agreed (s : Scan) : Type 0 where
@@ -39,13 +34,3 @@ agreed s e =
       steps = leb→le s.steps (delay_of s.table) d.0;
       unstepped = d.1;
     }
-
--- an accepted start
-pub record Begins (t : Table) (l samples sums : ℕ) : Type 0 where
-  pub table : acceptable t ≡ true
-  pub width : width_good l ≡ true
-  pub stores : stores_good l t.count samples sums ≡ true
-
-pub begins : (t : Table) (l samples sums : ℕ) → verdict (start_asks t l samples sums) ≡ Accepted → Begins t l samples sums
-unfolding start_asks
-begins t l samples sums e = let y = all_yes (start_asks t l samples sums) e in record { table = y.0; width = y.1.0; stores = y.1.1.0 }

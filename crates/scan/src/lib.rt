@@ -1,27 +1,24 @@
-// The scan engine: a scan row by row, with the column sums carried along. The state is a value; samples, sums and the
-// filtered row stand in stores that are lent to each call. Where a call is refused, each store is what it was.
-//
-//   start       a scan; or a refusal, 11, 12 or 13
-//   row         a filtered row in the output with its number, waiting, or a refusal: 14, 15, 16, 17, 13, 18 or 19
-//   close       the scan closed; or a refusal, 14 or 15
-//   step        a filtered row, waiting, done, or a refusal: 14, 15, 13 or 19
-//   state_good  question 14
+//! The scan engine: a scan row by row, with the column sums carried along. The state is a value; samples, sums and the
+//! filtered row stand in stores that are lent to each call. Where a call is refused, each store is what it was.
+//!
+//!   start       a scan; or a refusal, 11, 12 or 13
+//!   row         a filtered row in the output with its number, waiting, or a refusal: 14, 15, 16, 17, 13, 18 or 19
+//!   take_row    the same with the question that was answered no in place of its number
+//!   close       the scan closed; or a refusal, 14 or 15
+//!   step        a filtered row, waiting, done, or a refusal: 14, 15, 13 or 19
+//!   state_good  question 14
 #![tactic(auto)]
 
-mod rows;
-mod starts;
-mod state;
-mod steps;
+mod calls;
+mod stored;
 
-use layout::{Answer, Closing, Table, Verdict};
-pub use rows::row;
-pub use starts::{close, start};
-pub use state::state_good;
-pub use steps::step;
+pub use calls::{close, row, start, state_good, step, take_row};
+use layout::{Answer, Closing, Refusal, Table};
+pub use stored::Stored;
 
-// A scan: its table and width, the rows that came in, the closing steps done, and whether it is closed.
+/// A scan: its table and width, the rows that came in, the closing steps done, and whether it is closed.
 #[repr(C)]
-#[derive(Clone, Copy)]
+#[derive(Clone, Copy, Debug, PartialEq, Eq)]
 pub struct Scan {
     pub table: Table,
     pub width: usize,
@@ -30,22 +27,29 @@ pub struct Scan {
     pub closed: bool,
 }
 
-// The verdict on starting or closing, and the scan.
-#[derive(Clone, Copy)]
+/// The verdict on starting or closing, and the scan.
+#[derive(Clone, Copy, Debug, PartialEq, Eq)]
 pub struct Started {
-    pub verdict: Verdict,
+    pub verdict: Result<(), Refusal>,
     pub scan: Scan,
 }
 
-// The answer to a row, and the scan after it.
-#[derive(Clone, Copy)]
+/// The number of the filtered row that came out of a row, none where none is due yet, or the refusal; and the scan after it.
+#[derive(Clone, Copy, Debug, PartialEq, Eq)]
+pub struct Taken {
+    pub row: Result<Option<u32>, Refusal>,
+    pub scan: Scan,
+}
+
+/// The answer to a row, and the scan after it.
+#[derive(Clone, Copy, Debug, PartialEq, Eq)]
 pub struct Moved {
     pub answer: Answer,
     pub scan: Scan,
 }
 
-// The answer to a closing step, and the scan after it.
-#[derive(Clone, Copy)]
+/// The answer to a closing step, and the scan after it.
+#[derive(Clone, Copy, Debug, PartialEq, Eq)]
 pub struct Stepped {
     pub answer: Closing,
     pub scan: Scan,

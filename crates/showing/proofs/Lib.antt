@@ -1,3 +1,3 @@
-pub mod Rects
+pub mod Written
 pub mod Parts
 pub mod Answers

@@ -1,20 +1,31 @@
-// showtable [TABLE] > TEXT: shows a table file as text: the file that the word names, or standard input. A refusal, or an input that
-// cannot be read, is a line on standard error, and nothing is shown.
+//! showtable [TABLE] > TEXT: shows a table file as text: the file that the word names, or standard input. A refusal, or an input that
+//! cannot be read, is a line on standard error, and nothing is shown.
 #![tactic(auto)]
 
-use showing::Shown;
+use faults::Fault;
+use std::alloc::Global;
 use std::io::Write;
-use streams::{put, refuse};
+use streams::{print, refuse};
 
-// Shows the table file of these bytes.
-fn show<O: Write, E: Write>(output: &mut O, errors: &mut E, bytes: &[u8], name: &[u8]) {
-    let mut page = [0u8; 4096];
-    let s = showing::show(bytes, &mut page);
-    match s {
-        Shown::Length(n) => {
-            put(output, errors, &page[..n]);
+/// Shows the table file of these bytes.
+fn show<O: Write, E: Write>(
+    alloc: Global,
+    output: &mut O,
+    errors: &mut E,
+    bytes: &[u8],
+    name: &[u8],
+) {
+    match showing::show(bytes) {
+        Ok(shown) => {
+            print(alloc, output, errors, &shown);
         }
-        Shown::Refused(number, place) => refuse(errors, name, place, number),
+        Err(refusal) => {
+            let fault = Fault {
+                place: refusal.place,
+                number: refusal.question.number(),
+            };
+            refuse(alloc, errors, name, fault);
+        }
     }
 }
 
@@ -37,7 +48,11 @@ fn main(rt: HostRuntime) {
     if from.failed {
         return;
     }
-    let n = from.end;
-    let m = from.name;
-    show(&mut rt.stdout(), &mut errors, &bytes[..n], &name[..m]);
+    show(
+        rt.alloc(),
+        &mut rt.stdout(),
+        &mut errors,
+        &bytes[..from.end],
+        &name[..from.name],
+    );
 }

@@ -1,129 +1,82 @@
-// What is read: the words of the command line, the table file, and the scan's header.
-ghost use Rattle.std.specs.Prelude.{◌≡◌, false, T};
+//! What is read: the words of the command line, the table file, and the scan's header.
+ghost use Rattle.std.specs.Prelude.{IfSome};
 ghost use Rattle.filtering.specs.Judging.{Accepts};
 ghost use Rattle.streams.specs.Streams.{IsPrefixLen};
 
 use crate::console::Console;
 use crate::output;
-use commands::Command;
-use filtering::{Job, Judged};
-use pgm::Opening;
+use commands::{Begun, Command, Output};
+use filtering::Job;
+use pgm::{NoHeader, Opening};
 use std::env::Env;
 use std::io;
 use std::io::{Read, Write};
 use std::rt::Files;
 use streams::{Got, fail, gather};
 
-// What the command line comes to with the word at place i.
-fn with_word<R: Env>(rt: &R, c: Command, i: usize) -> Command {
+/// What the command line comes to with the word at place i.
+fn with_word<R: Env>(rt: &R, begun: Begun, i: usize) -> Begun {
     let mut word = [0u8; 4096];
     match streams::word(rt, i, &mut word) {
-        Ok(n) => commands::next(c, i, &word[..n]),
-        Err(_) => commands::next(c, i, b""),
+        Ok(n) => begun.next(i, &word[..n]),
+        Err(_) => begun.next(i, b""),
     }
 }
 
-// What the words of the command line come to.
+/// What the words of the command line come to.
 pub fn command<R: Env>(rt: &R) -> Command {
-    let n = streams::count_words(rt);
-    let mut c = Command::Filter(false, 0);
-    let mut i = 1;
-    while i < n {
-        c = with_word(rt, c, i);
-        i += 1;
+    let mut begun = Begun::Filter {
+        output: Output::Picture,
+        table: None,
+    };
+    for i in 1..streams::count_words(rt) {
+        begun = with_word(rt, begun, i);
     }
-    commands::ended(c)
+    begun.ended()
 }
 
-// The bytes of a table file, no more than loading needs.
+/// The bytes of a table file, no more than loading needs.
 pub fn table<R: Files, E: Write>(rt: &R, errors: &mut E, path: &[u8], bytes: &mut [u8; 156]) -> Got
     ensures { IsPrefixLen result.end bytes.new }
 {
     streams::file(rt, errors, path, bytes, table::read_most())
 }
 
-// The header of the scan, how many bytes of it were read, and why a read failed, if one did.
-#[derive(Drop)]
-pub struct Opened {
-    pub opening: Opening,
-    pub n: usize,
-    pub failed: Option<io::Error>,
-}
-
-// A header that goes on where nothing more comes.
-fn unfinished(n: usize, failed: Option<io::Error>) -> Opened {
-    Opened {
-        opening: Opening::More,
-        n,
-        failed,
-    }
-}
-
-// The header of the scan, read byte by byte, so that nothing of the rows is taken.
-pub fn opening<S: Read>(input: &mut S) -> Opened {
-    let mut space = [0u8; 4096];
-    let bytes: &mut [u8] = &mut space;
-    let mut n = 0;
-    while n < 4096 {
-        let next = n + 1;
-        let got = gather(input, bytes, n, next, next);
-        if got.failed.is_some() {
-            return unfinished(n, got.failed);
+/// What the header of the scan comes to, and how many bytes of it were read: byte by byte, so that nothing of the rows is taken.
+fn opening<S: Read>(input: &mut S) -> io::Result<(Result<Opening, NoHeader>, usize)> {
+    let mut bytes = [0u8; 4096];
+    for n in 0..4096 {
+        let got = gather(input, &mut bytes, n, n + 1, n + 1);
+        if let Some(why) = got.failed {
+            return Err(why);
         }
         if got.end == n {
-            return unfinished(n, None);
+            return Ok((Err(NoHeader::More), n));
         }
-        n = next;
-        let h = pgm::header(&bytes[..n]);
-        match h {
-            Opening::More => {}
-            _ => {
-                return Opened {
-                    opening: h,
-                    n,
-                    failed: None,
-                };
-            }
+        let header = pgm::header(&bytes[..n + 1]);
+        if header != Err(NoHeader::More) {
+            return Ok((header, n + 1));
         }
     }
-    unfinished(n, None)
+    Ok((Err(NoHeader::More), 4096))
 }
 
-// Whether the scan is taken, and what its header says.
-#[derive(Clone, Copy)]
-pub struct Announced {
-    pub taken: bool,
-    pub job: Job,
-}
-
-fn not_taken() -> Announced
-    ensures { result.taken ≡ false }
+/// The scan that the header announces, for samples of b bits. Where it is not taken, a line says why.
+pub fn header<S: Read, O, E: Write>(console: &mut Console<S, O, E>, b: u8) -> Option<Job>
+    ensures { IfSome result (λ job. Accepts job) }
 {
-    let job = Job {
-        width: 0,
-        height: 0,
-        maxval: 0,
-        need: 0,
+    let (header, n) = match opening(&mut console.input) {
+        Ok(read) => read,
+        Err(why) => {
+            fail(&mut console.errors, b"scan", &why);
+            return None;
+        }
     };
-    Announced { taken: false, job }
-}
-
-// The scan that the header announces, for samples of b bits. Where it is not taken, a line says why.
-pub fn header<S: Read, O, E: Write>(console: &mut Console<S, O, E>, b: u8) -> Announced
-    ensures { T result.taken → Accepts result.job }
-{
-    let opened = opening(&mut console.input);
-    if let Some(why) = &opened.failed {
-        fail(&mut console.errors, b"scan", why);
-        return not_taken();
-    }
-    let h = opened.opening;
-    let judged = filtering::judge(b, h, opened.n);
-    match judged {
-        Judged::Accepted(job) => Announced { taken: true, job },
-        Judged::Faulty(fault) => {
-            output::report(&mut console.errors, b"scan", fault);
-            not_taken()
+    match filtering::judge(b, header, n) {
+        Ok(job) => Some(job),
+        Err(fault) => {
+            output::report(console, b"scan", fault);
+            None
         }
     }
 }

@@ -1,31 +1,34 @@
-// What is written.
+//! What is written.
 ghost use Rattle.std.specs.Prelude.{◌≤◌};
 ghost use Rattle.filtering.specs.Judging.{Accepts};
 
 use crate::console::Console;
 use commands::Command;
-use filtering::{Fault, Job, put_answer, put_fault};
+use filtering::{Fault, Job};
 use std::env::Env;
+use std::fmt::Display;
+use std::io;
 use std::io::Write;
-use streams::put;
+use streams::{fail, put};
 
-// A line on standard error: what a fault is a fault of, and the fault.
-pub fn report<E: Write>(errors: &mut E, what: &[u8], fault: Fault) {
-    let mut text = [0u8; 4096];
-    let n = put_fault(fault, &mut text);
-    let _ = errors.write_all(what);
-    let _ = errors.write_all(b": ");
-    let _ = errors.write_all(&text[..n]);
+/// A line on standard error: what a fault is a fault of, and the fault.
+pub fn report<S, O, E: Write>(console: &mut Console<S, O, E>, what: &[u8], fault: Fault) {
+    match format!(in console.alloc; "{fault}") {
+        Ok(text) => {
+            let _ = console.errors.write_all(what);
+            let _ = console.errors.write_all(b": ");
+            let _ = console.errors.write_all(text.as_bytes());
+        }
+        Err(why) => fail(&mut console.errors, what, &why.into()),
+    }
 }
 
-// The answer to a command line that asks for no filtering.
+/// The answer to a command line that asks for no filtering.
 pub fn answer<W: Write>(stream: &mut W, c: Command) {
-    let mut text = [0u8; 4096];
-    let n = put_answer(c, &mut text);
-    let _ = stream.write_all(&text[..n]);
+    let _ = stream.write_all(filtering::answer(c).as_bytes());
 }
 
-// The same about word i.
+/// The same about word i.
 pub fn about_word<R: Env, E: Write>(rt: &R, errors: &mut E, c: Command, i: usize) {
     let mut word = [0u8; 4096];
     if let Ok(n) = streams::word(rt, i, &mut word) {
@@ -35,87 +38,129 @@ pub fn about_word<R: Env, E: Write>(rt: &R, errors: &mut E, c: Command, i: usize
     answer(errors, c);
 }
 
-// How filtered rows are written: as decimal numbers, as samples of two bytes from pixels of this many bits, or as bytes.
-#[derive(Clone, Copy)]
+/// How filtered rows are written: as decimal numbers, as samples of two bytes from pixels of this many bits, or as bytes.
+#[derive(Clone, Copy, Debug, PartialEq, Eq)]
 pub enum Form {
     Values,
     Words(u8),
     Bytes,
 }
 
-// A scan to filter: what its header says, and how it is written.
-#[derive(Clone, Copy)]
+/// A scan to filter: what its header says, and how it is written.
+#[derive(Clone, Copy, Debug, PartialEq, Eq)]
 pub struct Plan {
     pub job: Job,
     pub form: Form,
 }
 
-// The header of a picture with this maxval.
-fn head<S, O: Write, E: Write>(console: &mut Console<S, O, E>, job: Job, maxval: u32) -> bool {
-    let mut text = [0u8; 66];
-    let n = pgm::head(job.width, job.height, maxval, &mut text);
-    put(&mut console.output, &mut console.errors, &text[..n])
-}
+/// Output can no longer be written, and a line has said why.
+#[derive(Clone, Copy, Debug, PartialEq, Eq)]
+pub struct Unwritable;
 
-// What comes before the rows: nothing before decimal numbers; bytes have the scan's maxval.
-pub fn begin<S, O: Write, E: Write>(console: &mut Console<S, O, E>, plan: Plan) -> bool {
-    let job = plan.job;
-    let form = plan.form;
-    match form {
-        Form::Values => true,
-        Form::Words(_) => head(console, job, 65535),
-        Form::Bytes => head(console, job, job.maxval),
+/// Bytes on standard output.
+fn written<S, O: Write, E: Write>(
+    console: &mut Console<S, O, E>,
+    bytes: &[u8],
+) -> Result<(), Unwritable> {
+    if put(&mut console.output, &mut console.errors, bytes) {
+        Ok(())
+    } else {
+        Err(Unwritable)
     }
 }
 
-// Filtered rows as lines of decimal numbers.
+/// What a value prints, in one piece on standard output.
+fn printed<T: Display, S, O: Write, E: Write>(
+    console: &mut Console<S, O, E>,
+    shown: &T,
+) -> Result<(), Unwritable> {
+    match format!(in console.alloc; "{shown}") {
+        Ok(text) => written(console, text.as_bytes()),
+        Err(why) => {
+            fail(
+                &mut console.errors,
+                b"standard output",
+                &io::Error::from(why),
+            );
+            Err(Unwritable)
+        }
+    }
+}
+
+/// The header of a picture with this maxval.
+fn head<S, O: Write, E: Write>(
+    console: &mut Console<S, O, E>,
+    job: Job,
+    maxval: u32,
+) -> Result<(), Unwritable> {
+    printed(
+        console,
+        &pgm::Head {
+            width: job.width,
+            height: job.height,
+            maxval,
+        },
+    )
+}
+
+/// What comes before the rows: nothing before decimal numbers; bytes have the scan's maxval.
+pub fn begin<S, O: Write, E: Write>(
+    console: &mut Console<S, O, E>,
+    plan: Plan,
+) -> Result<(), Unwritable> {
+    match plan.form {
+        Form::Values => Ok(()),
+        Form::Words(_) => head(console, plan.job, 65535),
+        Form::Bytes => head(console, plan.job, plan.job.maxval),
+    }
+}
+
+/// Filtered rows as lines of decimal numbers.
 fn lines<S, O: Write, E: Write>(
     console: &mut Console<S, O, E>,
     pixels: &[i32],
     width: usize,
-) -> bool
+) -> Result<(), Unwritable>
     requires { 1 ≤ width }
 {
-    let mut space = [0u8; 22528];
-    let text: &mut [u8] = &mut space;
-    let mut at = 0;
-    while width <= pixels.len() - at {
-        let end = at + width;
-        let n = pgm::line(&pixels[at..end], text);
-        if !put(&mut console.output, &mut console.errors, &text[..n]) {
-            return false;
-        }
-        at = end;
+    for row in pixels.chunks_exact(width) {
+        printed(console, &pgm::Line(row))?;
     }
-    true
+    Ok(())
 }
 
-// Filtered rows as samples of the picture.
-fn samples<S, O: Write, E: Write>(console: &mut Console<S, O, E>, pixels: &[i32], w: u8) -> bool {
+/// Filtered rows as samples of the picture.
+fn samples<S, O: Write, E: Write>(
+    console: &mut Console<S, O, E>,
+    pixels: &[i32],
+    w: u8,
+) -> Result<(), Unwritable> {
     let mut page = [0u8; 131072];
     let n = 2 * pgm::encode(pixels, w, &mut page);
-    put(&mut console.output, &mut console.errors, &page[..n])
+    written(console, &page[..n])
 }
 
-// A filtered row of levels as bytes.
-fn bytes<S, O: Write, E: Write>(console: &mut Console<S, O, E>, levels: &[i32]) -> bool {
+/// A filtered row of levels as bytes.
+fn bytes<S, O: Write, E: Write>(
+    console: &mut Console<S, O, E>,
+    levels: &[i32],
+) -> Result<(), Unwritable> {
     let mut line = [0u8; 1024];
     let n = pgm::encode_levels(levels, &mut line);
-    put(&mut console.output, &mut console.errors, &line[..n])
+    written(console, &line[..n])
 }
 
-// Filtered rows, this many at the start of the pixels; of levels one at most.
+/// Filtered rows, this many at the start of the pixels; of levels one at most.
 pub fn rows<S, O: Write, E: Write>(
     console: &mut Console<S, O, E>,
     plan: Plan,
     pixels: &[i32],
     count: usize,
-) -> bool
+) -> Result<(), Unwritable>
     requires { Accepts plan.job }
 {
     let n = filtering::packed(count, plan.job.width, pixels.len());
-    let form = plan.form;
-    match form {
+    match plan.form {
         Form::Values => lines(console, &pixels[..n], plan.job.width as usize),
         Form::Words(w) => samples(console, &pixels[..n], w),
         Form::Bytes => bytes(console, &pixels[..n]),

@@ -1,165 +1,128 @@
-// The rows of a scan, as many at a time as one read brings.
+//! The rows of a scan, as many at a time as one read brings.
 ghost use Rattle.filtering.specs.Judging.{Accepts};
 
 use crate::console::Console;
+use crate::filters::Filter;
 use crate::output;
-use crate::output::Plan;
+use crate::output::{Plan, Unwritable};
 use filtering::Fault;
 use layout::Closing;
-use scan::Scan;
 use std::io::{Read, Write};
 use streams::{Got, fail, gather};
 
-// The scan after some rows, whether more are to be read, and whether output can still be written.
-#[derive(Clone, Copy)]
-pub struct Turn {
-    pub scan: Scan,
-    pub more: bool,
-    pub writable: bool,
+/// Whether more rows are to be read.
+#[derive(Clone, Copy, Debug, PartialEq, Eq)]
+enum Turn {
+    More,
+    Over,
 }
 
-fn turned(scan: Scan, more: bool, writable: bool) -> Turn {
-    Turn {
-        scan,
-        more,
-        writable,
-    }
-}
-
-// What comes of rows that were handed over: goes on, or stops at a fault, which is said.
-fn after<E: Write>(errors: &mut E, scan: Scan, fault: Fault, writable: bool) -> Turn {
-    match fault {
-        Fault::None => turned(scan, writable, writable),
-        _ => {
-            output::report(errors, b"scan", fault);
-            turned(scan, false, writable)
-        }
-    }
-}
-
-// Rows from their bytes: decoded, handed to the engine up to the first with a sample above the maxval, and written.
-fn some_rows<S, O: Write, E: Write>(
+/// Rows from their bytes: decoded, handed to the filter up to the first with a sample above the maxval, and written.
+fn some_rows<F: Filter, S, O: Write, E: Write>(
     console: &mut Console<S, O, E>,
     plan: Plan,
+    filter: &mut F,
     bytes: &[u8],
-    s: Scan,
     samples: &mut [u16],
-    sums: &mut [u32],
-) -> Turn
+    out: &mut [i32],
+) -> Result<Turn, Unwritable>
     requires { Accepts plan.job }
 {
-    let mut space = [0u16; 65536];
-    let mut out = [0i32; 65536];
     let job = plan.job;
-    let n = pgm::decode(bytes, job.maxval, &mut space);
-    let place = rule::first_above(&space[..n], job.maxval as u16);
+    let n = pgm::decode(bytes, job.maxval, samples);
+    let place = rule::first_above(&samples[..n], job.maxval as u16);
     let good = filtering::whole_part(place, job.width);
-    let b = burst::rows(s, &space[..good], samples, sums, &mut out);
-    let writable = output::rows(console, plan, &out, b.filtered);
-    let v = b.verdict;
-    let scan = b.scan;
-    let fault = filtering::row_fault(v, job, scan.rows, place, n);
-    after(&mut console.errors, scan, fault, writable)
+    let taken = filter.take(job, &samples[..good], out);
+    let written = output::rows(console, plan, out, taken.filtered);
+    let sample = filtering::row_fault(Ok(()), job, filter.rows(), place, n);
+    if let Err(fault) = taken.verdict.and(sample) {
+        output::report(console, b"scan", fault);
+        return written.map(|()| Turn::Over);
+    }
+    written.map(|()| Turn::More)
 }
 
-// Says why there is no whole row more.
-pub fn stopped<E: Write>(errors: &mut E, got: &Got, row: u32, need: u32) {
+/// Says why there is no whole row more.
+fn stopped<S, O, E: Write>(console: &mut Console<S, O, E>, got: &Got, row: u32, need: u32) {
     match &got.failed {
-        Some(why) => fail(errors, b"scan", why),
-        None => output::report(errors, b"scan", Fault::Cut(row, got.end, need)),
+        Some(why) => fail(&mut console.errors, b"scan", why),
+        None => output::report(console, b"scan", Fault::Cut(row, got.end, need)),
     }
 }
 
-// All rows, or those before the one that is cut off or has a sample too large. Nothing behind the last row is read.
-pub fn rows<S: Read, O: Write, E: Write>(
+/// All rows, or those before the one that is cut off or has a sample too large. Nothing behind the last row is read.
+fn rows<F: Filter, S: Read, O: Write, E: Write>(
     console: &mut Console<S, O, E>,
     plan: Plan,
-    s: Scan,
-    samples: &mut [u16],
-    sums: &mut [u32],
-) -> Turn
+    filter: &mut F,
+) -> Result<(), Unwritable>
     requires { Accepts plan.job }
 {
     let need = plan.job.need;
-    let row = need as usize;
-    let mut space = [0u8; 65536];
-    let store: &mut [u8] = &mut space;
-    let mut t = turned(s, true, true);
+    let mut store = [0u8; 65536];
+    let mut samples = [0u16; 65536];
+    let mut out = [0i32; 65536];
     let mut left = plan.job.height;
     let mut have = 0;
-    while 0 < left {
-        let got = gather(
-            &mut console.input,
-            store,
-            have,
-            row,
-            filtering::read_most(left, need),
-        );
-        let end = got.end;
-        let bytes = filtering::whole_part(end, need);
-        let before = t.scan;
+    while left > 0 {
+        let most = filtering::read_most(F::at_once(left), need);
+        let got = gather(&mut console.input, &mut store, have, need as usize, most);
+        let bytes = filtering::whole_part(got.end, need);
         if bytes == 0 {
-            stopped(&mut console.errors, &got, before.rows, need);
-            return t;
+            stopped(console, &got, filter.rows(), need);
+            return Ok(());
         }
-        t = some_rows(console, plan, &store[..bytes], before, samples, sums);
-        if !t.more {
-            return t;
+        let turn = some_rows(
+            console,
+            plan,
+            filter,
+            &store[..bytes],
+            &mut samples,
+            &mut out,
+        )?;
+        if turn == Turn::Over {
+            return Ok(());
         }
-        have = filtering::forward(store, bytes, end);
+        have = filtering::forward(&mut store, bytes, got.end);
         left = filtering::rows_left(left, bytes, need);
     }
-    t
+    Ok(())
 }
 
-// A closing step, and what comes of it.
-fn one_step<S, O: Write, E: Write>(
+/// The rows that the closing steps give, at most 16 with the one that says done.
+fn steps<F: Filter, S, O: Write, E: Write>(
     console: &mut Console<S, O, E>,
     plan: Plan,
-    s: Scan,
-    samples: &mut [u16],
-    sums: &mut [u32],
-) -> Turn
+    filter: &mut F,
+) -> Result<(), Unwritable>
     requires { Accepts plan.job }
 {
     let mut out = [0i32; 1024];
-    let stepped = scan::step(s, samples, sums, &mut out);
-    let answer = stepped.answer;
-    let scan = stepped.scan;
-    match answer {
-        Closing::Row(_) => {
-            let done = output::rows(console, plan, &out, 1);
-            turned(scan, done, done)
+    for _ in 0..16 {
+        match filter.step(&mut out) {
+            Closing::Row(_) => output::rows(console, plan, &out, 1)?,
+            Closing::Waiting => {}
+            Closing::Done => return Ok(()),
+            Closing::Refused(number, place) => {
+                output::report(console, b"scan", Fault::Engine(number, place));
+                return Ok(());
+            }
         }
-        Closing::Waiting => turned(scan, true, true),
-        Closing::Done => turned(scan, false, true),
-        Closing::Refused(number, place) => after(
-            &mut console.errors,
-            scan,
-            Fault::Engine(number, place),
-            true,
-        ),
     }
+    Ok(())
 }
 
-// The rows that the closing steps give, at most 16 with the one that says done.
-pub fn steps<S, O: Write, E: Write>(
+/// Runs a scan that has been started: its header goes out, then the rows as they come, then the rows that the closing steps
+/// give.
+pub fn run<F: Filter, S: Read, O: Write, E: Write>(
     console: &mut Console<S, O, E>,
     plan: Plan,
-    s: Scan,
-    samples: &mut [u16],
-    sums: &mut [u32],
-)
+    filter: &mut F,
+) -> Result<(), Unwritable>
     requires { Accepts plan.job }
 {
-    let mut t = turned(s, true, true);
-    let mut left = 16u32;
-    while 0 < left {
-        left -= 1;
-        let before = t.scan;
-        t = one_step(console, plan, before, samples, sums);
-        if !t.more {
-            return;
-        }
-    }
+    output::begin(console, plan)?;
+    rows(console, plan, filter)?;
+    filter.close();
+    steps(console, plan, filter)
 }

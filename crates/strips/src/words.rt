@@ -1,102 +1,136 @@
-// A line taken apart: the letter of its command and its numbers, of up to 16 bits each.
-ghost use Rattle.std.specs.Prelude.{◌≤◌, ◌<◌, length};
+//! A line taken apart: the letter of its command and its numbers, of up to 16 bits each.
+ghost use Rattle.std.specs.Prelude.{◌≤◌, ◌<◌};
 
+/// A command, by the letter that its line begins with.
+#[derive(Clone, Copy, Debug, PartialEq, Eq)]
+pub enum Command {
+    Table,
+    Empty,
+    Numbers,
+    Close,
+    Begin,
+    Keep,
+    Alter,
+    Window,
+    Row,
+    Step,
+    Hold,
+    Pixel,
+}
+
+impl Command {
+    /// The command of a small letter; a line with any other is a title.
+    pub fn of(letter: u8) -> Option<Command> {
+        match letter {
+            b't' => Some(Command::Table),
+            b'e' => Some(Command::Empty),
+            b'n' => Some(Command::Numbers),
+            b'c' => Some(Command::Close),
+            b'b' => Some(Command::Begin),
+            b'k' => Some(Command::Keep),
+            b'a' => Some(Command::Alter),
+            b'w' => Some(Command::Window),
+            b'r' => Some(Command::Row),
+            b's' => Some(Command::Step),
+            b'h' => Some(Command::Hold),
+            b'p' => Some(Command::Pixel),
+            _ => None,
+        }
+    }
+}
+
+/// The letter that a line begins with, 0 for an empty one.
 pub fn letter(line: &[u8]) -> u8 {
-    if 0 < line.len() { line[0] } else { 0 }
+    if line.is_empty() { 0 } else { line[0] }
 }
 
-pub fn least(a: usize, b: usize) -> usize
-    ensures { result ≤ b }
-{
-    if a < b { a } else { b }
-}
-
-// The value of a digit, decimal or hexadecimal.
+/// The value of a digit, decimal or hexadecimal.
 fn digit(x: u8) -> u32 {
-    if x < 48 {
-        return 0;
-    }
-    if x < 65 {
-        return (x - 48) as u32;
-    }
-    (x - 55) as u32
+    u32::from(if x < 65 { x.saturating_sub(48) } else { x - 55 })
 }
 
-fn low(m: u32) -> u16 {
-    (m % 65536) as u16
-}
-
-// A number with one more digit; a space adds none.
+/// A number with one more digit; a space adds none.
 fn grown(n: u16, x: u8, hex: bool) -> u16 {
     if x == b' ' {
         return n;
     }
-    let m = n as u32 % 65536;
-    let y = digit(x) % 16;
-    if hex {
-        return low(m * 16 + y);
-    }
-    low(m * 10 + y)
+    let base = if hex { 16 } else { 10 };
+    ((u32::from(n) * base + digit(x) % 16) % 65536) as u16
 }
 
-// How many spaces are past, this byte with them, 256 at most.
+/// How many spaces are past, this byte with them, 256 at most.
 fn spaces(k: usize, x: u8) -> usize
     ensures { result ≤ 256 }
 {
-    if x != b' ' {
-        return least(k, 256);
+    if x == b' ' {
+        k.min(255) + 1
+    } else {
+        k.min(256)
     }
-    least(k, 255) + 1
 }
 
-// Where the number after so many spaces is put; what stands before the first is put last.
+/// Where the number after so many spaces is put; what stands before the first is put last.
 fn place(k: usize) -> usize
     ensures { result < 2048 }
 {
-    if k == 0 {
-        return 2047;
+    if k == 0 { 2047 } else { (k - 1).min(2046) }
+}
+
+/// The numbers of a line, with zeros after them, and how many they are.
+#[derive(Clone, Copy)]
+pub struct Numbers {
+    at: [u16; 2048],
+    count: usize,
+}
+
+impl Numbers {
+    /// The numbers of a line, hexadecimal or decimal.
+    pub fn read(line: &[u8], hex: bool) -> Numbers {
+        let mut at = [0u16; 2048];
+        let mut k = 0;
+        for &x in line {
+            k = spaces(k, x);
+            let p = place(k);
+            at[p] = grown(at[p], x, hex);
+        }
+        Numbers { at, count: k }
     }
-    least(k - 1, 2046)
-}
 
-// The numbers of a line; answers how many they are.
-pub fn numbers(line: &[u8], hex: bool, at: &mut [u16]) -> usize
-    requires { 2048 ≤ length at.old }
-{
-    let mut k = 0;
-    let mut i = 0;
-    while i < line.len() {
-        let x = line[i];
-        k = spaces(k, x);
-        let p = place(k);
-        at[p] = grown(at[p], x, hex);
-        i += 1;
+    /// All of them, and the zeros after them.
+    pub fn all(&self) -> &[u16] {
+        &self.at
     }
-    k
-}
 
-// A number, counted from 0; 0 past the end.
-pub fn number(n: &[u16], k: usize) -> u16 {
-    if k < n.len() { n[k] } else { 0 }
-}
+    /// Those that the line has.
+    pub fn given(&self) -> &[u16] {
+        &self.at[..self.count.min(2048)]
+    }
 
-pub fn wide(x: u16) -> u32 {
-    x as u32
-}
+    /// A number, counted from 0.
+    pub fn number(&self, k: usize) -> u16 {
+        if k < 2048 { self.at[k] } else { 0 }
+    }
 
-pub fn long(n: &[u16], k: usize) -> usize {
-    number(n, k) as usize
-}
+    pub fn wide(&self, k: usize) -> u32
+        ensures { result < 65536 }
+    {
+        u32::from(self.number(k))
+    }
 
-pub fn byte(n: &[u16], k: usize) -> u8 {
-    (number(n, k) % 256) as u8
-}
+    pub fn long(&self, k: usize) -> usize {
+        usize::from(self.number(k))
+    }
 
-// The numbers as the bytes of a file.
-pub fn bytes(n: &[u16], file: &mut [u8]) {
-    let mut k = 0;
-    while k < file.len() {
-        file[k] = byte(n, k);
-        k += 1;
+    pub fn byte(&self, k: usize) -> u8 {
+        (self.number(k) % 256) as u8
+    }
+
+    /// The first 256 as the bytes of a file.
+    pub fn bytes(&self) -> [u8; 256] {
+        let mut file = [0u8; 256];
+        for (k, byte) in file.iter_mut().enumerate() {
+            *byte = self.byte(k);
+        }
+        file
     }
 }

@@ -1,26 +1,15 @@
 -- Files with more behind sixteen rectangles, in the order of questions that holds and in the one before it.
 -- Assumes nothing.
-use Prim.Native.Nat.{ℕ, zero, suc, ◌<◌}
-use native.Mathlib.Omega.{arith}
-use native.Mathlib.Nat.{eq-zero-or-pos}
-use mathlib.Core.Logic.{inl, inr}
-use mathlib.Core.Path.{◌≡◌, refl, sym, ap, ◌∙◌, subst}
-use mathlib.Core.Bool.{Bool, true, false, not, cond, ◌&&◌}
-use mathlib.Core.List.{List, [], ◌∷◌, ◌++◌}
-use lib.Dec.{T, leb, eqb}
-use lib.ListN.{length, drop}
-use borrow.Author.Tests.{le-leb, leb-true, eq-eqb, ne_eqb}
-use mir.Facts.{and_yes}
+use Rattle.std.proofs.Common.{ℕ, zero, suc, ◌<◌, arith, eq-zero-or-pos, inl, inr, ◌≡◌, refl, sym, ap, ◌∙◌, subst, Bool, true, false, not, cond, ◌&&◌, List, [], ◌∷◌, ◌++◌, T, leb, eqb, length, drop, le-leb, leb-true, eq-eqb, ne_eqb}
+use Rattle.std.proofs.Math.Facts.{and_yes}
 use Rattle.layout.specs.declared.Rect.{Rect}
-use Rattle.layout.specs.declared.Verdict.{Verdict}
-use Rattle.layout.specs.declared.Verdict.TheVariants.{Accepted, Refused}
 use Rattle.layout.specs.Contents.{Contents}
-use Rattle.layout.specs.Answers.{Question, asks, first_no, verdict}
+use Rattle.layout.specs.Answers.{refused as refusal, Question, asks, first_no, verdict}
 use Rattle.layout.proofs.Questions.{on_verdict, first_verdict, all_yes}
 use Rattle.limits.specs.Limits.{head_asks, rect_good, value_good, shaped}
 use Rattle.table.specs.Format.{Bytes, Outcome, refused, loaded, marked, head_of, rect_of, plus, header_asks, field_asks, at_end, fields_of, parse_of, fit_of, load_of, encode_rect, encode_rects, encode_head, encode}
 use Rattle.table.specs.Before.{fields_before, load_before, Overlong}
-use Rattle.table.proofs.Asked.{FieldTests, field_accepted, header_accepted}
+use Rattle.table.proofs.Asked.{Decided, yes, no, decided, FieldTests, field_accepted, header_accepted}
 use Rattle.table.proofs.Structs.{with_rects}
 use Rattle.table.proofs.Fields.{fields_end}
 use Rattle.table.proofs.Sound.{field_again, header_again, weight_fits, bytes_drop}
@@ -46,11 +35,11 @@ later_six (q ∷ qs) next t e = go (later_six qs next a.1) q.holds e
     go later false h = absurd (subst T (ap not (eq-eqb q.number 6 (let n : q.number ≡ 6 = cc in n))) a.0)
 
 -- questions that refuse do so whatever follows them
-refused_by : (qs : List Question) {n p : ℕ} → verdict qs ≡ Refused n p → (next : Outcome) → first_no qs refused next ≡ refused n p
+refused_by : (qs : List Question) {n p : ℕ} → verdict qs ≡ refusal n p → (next : Outcome) → first_no qs refused next ≡ refused n p
 refused_by qs v next = first_verdict qs refused next ∙ ap (λ x. on_verdict x refused next) v
 
 -- and not with 6 where none of them is 6
-not_by_six : (qs : List Question) {n p : ℕ} → T (without_six qs) → verdict qs ≡ Refused n p → ¬ (refused n p ≡ refused 6 0)
+not_by_six : (qs : List Question) {n p : ℕ} → T (without_six qs) → verdict qs ≡ refusal n p → ¬ (refused n p ≡ refused 6 0)
 not_by_six qs t v e = let s = later_six qs (refused 7 0) t (refused_by qs v _ ∙ e) in absurd (let z : ◌≡◌ {A = ℕ} 7 6 = cc in omega arith)
 
 -- ---- the fields in both orders
@@ -108,7 +97,7 @@ reach_end left bs c z =
     alike (fields_end left bs c z ∙ sym (before_end left bs c z)) (λ e. not_six c (sym (fields_end left bs c z) ∙ e))
 
 -- a field that is refused is refused alike
-reach_refused : (left : ℕ) (bs : List ℕ) (c : Contents) (n p : ℕ) → 0 < length bs → verdict (asked bs) ≡ Refused n p → Reach (suc left) bs c
+reach_refused : (left : ℕ) (bs : List ℕ) (c : Contents) (n p : ℕ) → 0 < length bs → verdict (asked bs) ≡ refusal n p → Reach (suc left) bs c
 reach_refused left bs c n p h v =
     let o = of_step left bs c h ∙ refused_by (asked bs) v _ in
     alike (o ∙ sym (before_step left bs c h ∙ refused_by (asked bs) v _)) (λ e. not_by_six (asked bs) tt v (sym o ∙ e))
@@ -129,12 +118,12 @@ reach_accepted left bs c byte h f (behind rs rest l fine some e) =
     fines (suc k) l = fine k (omega arith)
 
 reach_field : (left : ℕ) (bs : List ℕ) (c : Contents) → Bytes bs → 0 < length bs → Reach left (drop 9 bs) (plus c (rect_of bs))
-    → (v : Verdict) → verdict (asked bs) ≡ v → Reach (suc left) bs c
-reach_field left bs c byte h r Accepted v =
+    → Decided (verdict (asked bs)) → Reach (suc left) bs c
+reach_field left bs c byte h r (yes v) =
     let y = all_yes (asked bs) v in
     let f : FieldTests (suc left) bs = record { mark = y.0; room = omega arith; whole = leb-true _ _ y.1.0; edges = y.1.1.0 } in
     reach_accepted left bs c byte h f r
-reach_field left bs c byte h r (Refused n p) v = reach_refused left bs c n p h v
+reach_field left bs c byte h r (no n p v) = reach_refused left bs c n p h v
 
 reach : (left : ℕ) (bs : List ℕ) (c : Contents) → Bytes bs → Reach left bs c
 unfolding encode_rects
@@ -146,7 +135,7 @@ reach zero bs c byte =
 reach (suc left) bs c byte =
     elim (eq-zero-or-pos (length bs)) [
       | inl z ↦ reach_end (suc left) bs c z
-      | inr h ↦ reach_field left bs c byte h (reach left (drop 9 bs) (plus c (rect_of bs)) (bytes_drop 9 bs byte)) (verdict (asked bs)) refl
+      | inr h ↦ reach_field left bs c byte h (reach left (drop 9 bs) (plus c (rect_of bs)) (bytes_drop 9 bs byte)) (decided (asked bs))
     ]
 
 -- ---- the whole file
@@ -192,9 +181,9 @@ unfolding load_of parse_of load_before
 compared_fields bs e n = alike (ap (λ o. fit_of (first_no (header_asks bs) refused o)) e) (λ s. n (later_six (header_asks bs) _ (header_not_six bs) (fit_six _ s)))
 
 compared_header : (bs : List ℕ) (rs : List Rect) (rest : List ℕ) → length rs ≡ 16 → Fines rs → 0 < length rest → drop 9 bs ≡ encode_rects rs ++ rest
-    → (v : Verdict) → verdict (header_asks bs) ≡ v → Compared bs
+    → Decided (verdict (header_asks bs)) → Compared bs
 unfolding load_of parse_of load_before encode encode_head
-compared_header bs rs rest l fine more e Accepted v =
+compared_header bs rs rest l fine more e (yes v) =
     let h = header_accepted bs v in
     overlong record {
       table = with_rects (head_of bs) rs;
@@ -204,7 +193,7 @@ compared_header bs rs rest l fine more e Accepted v =
       more = more;
       is = sym (header_again bs h) ∙ ap (λ x. encode_head (head_of bs) ++ x) e;
     }
-compared_header bs rs rest l fine more e (Refused n p) v =
+compared_header bs rs rest l fine more e (no n p v) =
     let is = refused_by (header_asks bs) v in
     alike (ap fit_of (is _ ∙ sym (is _))) (λ s. not_by_six (header_asks bs) (header_not_six bs) v (sym (ap fit_of (is _)) ∙ s))
 
@@ -213,4 +202,4 @@ compared bs byte = go (reach 16 (drop 9 bs) (head_of bs) (bytes_drop 9 bs byte))
   where
     go : Reach 16 (drop 9 bs) (head_of bs) → Compared bs
     go (alike e n) = compared_fields bs e n
-    go (behind rs rest l fine more e) = compared_header bs rs rest l fine more e (verdict (header_asks bs)) refl
+    go (behind rs rest l fine more e) = compared_header bs rs rest l fine more e (decided (header_asks bs))

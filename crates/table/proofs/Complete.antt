@@ -1,27 +1,17 @@
 -- A table within the limits, written out: loading its file gives the table back.
 -- Assumes nothing.
-use Prim.Native.Nat.{ℕ, zero, suc, ◌+◌, ◌-◌, ◌/◌, ◌%◌, ◌≤◌, ◌<◌}
-use native.Mathlib.Omega.{arith}
-use native.Mathlib.Nat.{div-add-mod'}
-use mathlib.Core.Path.{◌≡◌, refl, sym, ap, ◌∙◌, subst}
-use mathlib.Core.Bool.{Bool, cond, ◌&&◌}
-use mathlib.Core.List.{List, [], ◌∷◌, ◌++◌, append_assoc, append-nil}
-use lib.Dec.{T, leb, ltb, leb→le, ltb→lt}
-use lib.ListN.{length, get_or, drop}
-use borrow.Author.Tests.{le-leb}
-use mir.Facts.{and_yes, yes_and}
+use Rattle.std.proofs.Common.{ℕ, zero, suc, ◌+◌, ◌-◌, ◌/◌, ◌%◌, ◌≤◌, ◌<◌, arith, div-add-mod', ◌≡◌, refl, sym, ap, ◌∙◌, subst, Bool, cond, ◌&&◌, List, [], ◌∷◌, ◌++◌, append_assoc, append-nil, T, leb, ltb, leb→le, ltb→lt, length, get_or, drop, le-leb}
+use Rattle.std.proofs.Math.Facts.{and_yes, yes_and}
 use Rattle.arith.specs.All.{all}
 use Rattle.arith.specs.Twos.{signed, unsigned, fits_signed}
 use Rattle.arith.proofs.Alls.{all_at, all_of}
 use Rattle.arith.proofs.Bools.{true_of}
 use Rattle.arith.proofs.Words.{signed-unsigned, unsigned-lt}
 use Rattle.layout.specs.declared.Rect.{Rect}
-use Rattle.layout.specs.declared.Verdict.TheVariants.{Accepted}
 use Rattle.layout.specs.Contents.{Contents, no_rect}
-use Rattle.limits.specs.Limits.{bits_good, drops_good, word_good, rect_good, value_good, shaped, within}
-use Rattle.layout.specs.Answers.{verdict}
+use Rattle.limits.specs.Limits.{bits_good, drops_good, word_good, rect_good, value_good, shaped, within, head_asks}
+use Rattle.layout.specs.Answers.{accepted, verdict}
 use Rattle.table.specs.Format.{Bytes, Outcome, loaded, refused, marked, rect_of, plus, header_asks, field_asks, fields_of, parse_of, fit_of, load_of, encode_head, encode_rect, encode_rects, encode}
-use Rattle.limits.specs.Limits.{head_asks}
 use Rattle.limits.proofs.Asked.{HeadTests}
 use Rattle.limits.proofs.Bounds.{rect_bounds, edge_fits}
 use Rattle.table.proofs.Structs.{with_rects}
@@ -55,7 +45,7 @@ pub long : (r : Rect) (rest : List ℕ) → 9 ≤ length (encode_rect r ++ rest)
 unfolding encode_rect
 long r rest = omega arith
 
-pub field_read : (left : ℕ) (r : Rect) (rest : List ℕ) → Fine r → verdict (field_asks (suc left) (encode_rect r ++ rest)) ≡ Accepted
+pub field_read : (left : ℕ) (r : Rect) (rest : List ℕ) → Fine r → verdict (field_asks (suc left) (encode_rect r ++ rest)) ≡ accepted []
 unfolding field_asks marked encode_rect
 field_read left r rest f =
     let l = long r rest in
@@ -106,7 +96,7 @@ fields_read left rs c h f n =
 -- ---- the whole file
 
 pub head_read : (c : Contents) (more : List ℕ) → HeadTests c.b c.q1 c.q2 c.q3 c.t c.w
-    → verdict (header_asks (encode_head c ++ more)) ≡ Accepted
+    → verdict (header_asks (encode_head c ++ more)) ≡ accepted []
 unfolding header_asks head_asks marked encode_head
 head_read c more h =
     rw (le-leb 3 (length (encode_head c ++ more)) (omega arith), le-leb 9 (length (encode_head c ++ more)) (omega arith), h.bits, h.drops, h.word)

@@ -1,11 +1,6 @@
 -- The equations of `fields_of` and `parse_of`, by the verdicts of their questions.
 -- Assumes nothing.
-use Prim.Native.Nat.{ℕ, zero, suc, ◌<◌}
-use native.Mathlib.Omega.{arith}
-use mathlib.Core.Path.{◌≡◌}
-use mathlib.Core.List.{List}
-use lib.ListN.{length, drop}
-use borrow.Author.Tests.{eq-eqb, ne_eqb}
+use Rattle.std.proofs.Common.{ℕ, zero, suc, ◌<◌, arith, ◌≡◌, List, length, drop, eq-eqb, ne_eqb}
 use Rattle.layout.specs.Contents.{Contents}
 use Rattle.layout.specs.Answers.{verdict}
 use Rattle.layout.proofs.Questions.{on_verdict, first_verdict}

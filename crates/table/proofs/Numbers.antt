@@ -1,12 +1,7 @@
 -- The numbers of loading's refusals: from 1 to 10, each at place 0.
 -- Assumes nothing.
-use Prim.Native.Nat.{ℕ, zero, suc, ◌≤◌}
-use mathlib.Core.Path.{◌≡◌}
-use mathlib.Core.Bool.{Bool, true, false, cond, ◌&&◌}
-use mathlib.Core.List.{List, [], ◌∷◌}
-use lib.Dec.{T, eqb, leb, leb→le, eqb→eq}
-use lib.ListN.{length, drop}
-use mir.Facts.{and_yes}
+use Rattle.std.proofs.Common.{ℕ, zero, suc, ◌≤◌, ◌≡◌, Bool, true, false, cond, ◌&&◌, List, [], ◌∷◌, T, eqb, leb, leb→le, eqb→eq, length, drop}
+use Rattle.std.proofs.Math.Facts.{and_yes}
 use Rattle.layout.specs.Contents.{Contents}
 use Rattle.layout.specs.Answers.{Question, asks, first_no}
 use Rattle.limits.specs.Limits.{head_asks, value_good}

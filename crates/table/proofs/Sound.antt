@@ -1,40 +1,35 @@
 -- A file that is loaded: its table is within the limits, and written out again it has the same bytes.
 -- Assumes nothing.
-use Prim.Native.Nat.{ℕ, zero, suc, ◌+◌, ◌*◌, ◌≤◌, ◌<◌}
-use native.Mathlib.Omega.{arith}
-use native.Mathlib.Nat.{eq-zero-or-pos}
-use mathlib.Core.Logic.{inl, inr}
-use mathlib.Core.Path.{◌≡◌, refl, sym, ap, ap₂, ◌∙◌, subst}
-use mathlib.Core.Bool.{Bool, true, false, cond, ◌&&◌}
-use mathlib.Core.List.{List, [], ◌∷◌, ◌++◌, append_assoc, append-nil}
-use lib.Dec.{T, leb, eqb, eqb→eq}
-use lib.ListN.{length, get_or, drop, length-drop}
-use lib.Seq.{drop-cons, get_or-drop}
-use borrow.Author.Tests.{leb-true}
-use mir.Facts.{and_yes}
+use Rattle.std.proofs.Common.{ℕ, zero, suc, ◌+◌, ◌*◌, ◌≤◌, ◌<◌, arith, eq-zero-or-pos, inl, inr, ◌≡◌, refl, sym, ap, ap₂, ◌∙◌, subst, Bool, true, false, cond, ◌&&◌, List, [], ◌∷◌, ◌++◌, append_assoc, append-nil, T, leb, eqb, eqb→eq, length, get_or, drop, length-drop, drop-cons, get_or-drop, leb-true}
+use Rattle.std.proofs.Math.Facts.{and_yes}
 use Rattle.arith.specs.Twos.{signed, unsigned, fits_signed}
 use Rattle.arith.proofs.Words.{unsigned_signed, signed_fits}
 use Rattle.layout.specs.declared.Rect.{Rect}
 use Rattle.layout.specs.declared.Table.{Table}
-use Rattle.layout.specs.declared.Verdict.{Verdict}
-use Rattle.layout.specs.declared.Verdict.TheVariants.{Accepted, Refused}
 use Rattle.layout.specs.Contents.{Contents, no_rect, table_of}
 use Rattle.limits.specs.Limits.{rect_good, value_good}
-use Rattle.layout.specs.Answers.{refused as refusal, accepted, said, verdict}
+use Rattle.layout.specs.Answers.{refused as refusal, accepted, Question, verdict}
+use Rattle.layout.specs.Questions.{number_of}
+use Rattle.layout.specs.declared.asking.Refusal.{Refusal}
+use Rattle.std.specs.Prelude.{Result, Ok, Err}
 use Rattle.layout.proofs.Answers.{same_refusal}
 use Rattle.layout.proofs.Questions.{on_verdict}
-use Rattle.table.specs.Format.{Bytes, Outcome, refused, loaded, marked, head_of, rect_of, plus, header_asks, field_asks, at_end, fields_of, parse_of, fit_of, load_of, said_of, table_from, handed, handed_out, encode_rect, encode_rects, encode_head, encode}
+use Rattle.table.specs.Format.{Bytes, Outcome, refused, loaded, marked, head_of, rect_of, plus, header_asks, field_asks, at_end, fields_of, parse_of, fit_of, load_of, said_of, table_from, given, handed_out, encode_rect, encode_rects, encode_head, encode}
 use Rattle.limits.proofs.Asked.{HeadTests}
-use Rattle.table.proofs.Asked.{FieldTests, field_accepted, HeaderTests, header_accepted}
+use Rattle.table.proofs.Asked.{Decided, yes, no, decided, FieldTests, field_accepted, HeaderTests, header_accepted}
 use Rattle.table.proofs.Structs.{with_rects}
 use Rattle.table.proofs.Fields.{fields_end, fields_step, parse_step}
 
 -- ---- verdicts and outcomes
 
 -- what follows questions is loaded only where they were answered yes
-after_loaded : (v : Verdict) (next : Outcome) (c : Contents) → on_verdict v refused next ≡ loaded c → (v ≡ Accepted) × (next ≡ loaded c)
-after_loaded Accepted next c e = (refl, e)
-after_loaded (Refused n p) next c e = absurd (let z : ◌≡◌ {A = ℕ} 0 1 = cc in omega arith)
+after_loaded : (qs : List Question) (next : Outcome) (c : Contents) → on_verdict (verdict qs) refused next ≡ loaded c
+    → (verdict qs ≡ accepted []) × (next ≡ loaded c)
+after_loaded qs next c e = go (decided qs)
+  where
+    go : Decided (verdict qs) → (verdict qs ≡ accepted []) × (next ≡ loaded c)
+    go (yes v) = (v, sym (ap (λ s. on_verdict s refused next) v) ∙ e)
+    go (no n p v) = absurd (let z = sym (ap (λ s. on_verdict s refused next) v) ∙ e in let y : ◌≡◌ {A = ℕ} 0 1 = cc in omega arith)
 
 pub same_contents : {c d : Contents} → loaded c ≡ loaded d → c ≡ d
 same_contents e = cc
@@ -177,14 +172,14 @@ fields_sound zero bs c d e =
     elim (eq-zero-or-pos (length bs)) [
       | inl z ↦ rest_none zero bs c d z (sym (fields_end zero bs c z) ∙ e)
       | inr p ↦
-          let a = after_loaded (verdict (field_asks zero bs)) _ d (sym (fields_step zero bs c p) ∙ e) in
+          let a = after_loaded (field_asks zero bs) _ d (sym (fields_step zero bs c p) ∙ e) in
           absurd (let r = (field_accepted zero bs a.0).room in omega arith)
     ]
 fields_sound (suc left) bs c d e =
     elim (eq-zero-or-pos (length bs)) [
       | inl z ↦ rest_none (suc left) bs c d z (sym (fields_end (suc left) bs c z) ∙ e)
       | inr p ↦
-          let a = after_loaded (verdict (field_asks (suc left) bs)) _ d (sym (fields_step (suc left) bs c p) ∙ e) in
+          let a = after_loaded (field_asks (suc left) bs) _ d (sym (fields_step (suc left) bs c p) ∙ e) in
           rest_more left bs c d (field_accepted (suc left) bs a.0) (fields_sound left (drop 9 bs) (plus c (rect_of bs)) d a.1)
     ]
 
@@ -214,7 +209,7 @@ parsed bs c h r =
 
 pub parse_sound : (bs : List ℕ) (c : Contents) → parse_of bs ≡ loaded c → Parsed bs c
 parse_sound bs c e =
-    let a = after_loaded (verdict (header_asks bs)) _ c (sym (parse_step bs) ∙ e) in
+    let a = after_loaded (header_asks bs) _ c (sym (parse_step bs) ∙ e) in
     parsed bs c (header_accepted bs a.0) (fields_sound 16 (drop 9 bs) (head_of bs) c a.1)
 
 -- question 10 lets through what was read, where its answer is yes
@@ -240,10 +235,11 @@ pub record Read (bs : List ℕ) (t : Table) : Type 0 where
   pub head : HeadTests t.b t.q1 t.q2 t.q3 t.t t.w
   pub few : t.count ≤ 16
 
-pub read : (bs : List ℕ) {v : Verdict} {t : Table} → handed (said v) t ≡ handed_out (load_of bs) → v ≡ Accepted → Read bs t
+pub read : (bs : List ℕ) {v : Result Table Refusal} {t : Table} → given v ≡ handed_out (load_of bs) → v ≡ Ok t → Read bs t
 read bs {v} {t} e a =
-    let l = loaded_from (load_of bs) (sym (ap (λ h. h.said) e) ∙ ap said a) in
-    let is = ap (λ h. h.table) e ∙ ap table_from l.1 in
+    let g = sym (ap given a) ∙ e in
+    let l = loaded_from (load_of bs) (sym (ap (λ h. h.said) g)) in
+    let is = ap (λ h. h.table) g ∙ ap table_from l.1 in
     let p = (load_sound bs l.0 l.1).0 in
     record {
       contents = l.0;
@@ -254,5 +250,6 @@ read bs {v} {t} e a =
     }
 
 -- it was refused
-pub not_read : (bs : List ℕ) {v : Verdict} {t : Table} {n p : ℕ} → handed (said v) t ≡ handed_out (load_of bs) → v ≡ Refused n p → load_of bs ≡ refused n p
-not_read bs {v} {t} {n} {p} e a = refused_from (load_of bs) n p (sym (ap (λ h. h.said) e) ∙ ap said a)
+pub not_read : (bs : List ℕ) {v : Result Table Refusal} {r : Refusal} → given v ≡ handed_out (load_of bs) → v ≡ Err r
+    → load_of bs ≡ refused (number_of r.question) r.place
+not_read bs {v} {r} e a = refused_from (load_of bs) _ _ (sym (ap (λ h. h.said) (sym (ap given a) ∙ e)))

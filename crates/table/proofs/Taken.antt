@@ -1,12 +1,8 @@
 -- Loading looks no further than a mark past the longest table.
 -- Assumes nothing.
-use Prim.Native.Nat.{ℕ, zero, suc, ◌+◌, ◌-◌, ◌*◌, ◌≤◌, ◌<◌}
-use native.Mathlib.Omega.{arith}
-use mathlib.Core.Path.{◌≡◌, refl, sym, ap, ◌∙◌}
-use mathlib.Core.List.{List, [], ◌∷◌}
-use lib.Dec.{leb, eqb, leb-zero, leb-suc-suc, eqb-suc-zero}
-use lib.ListN.{length, take, drop}
-use lib.Seq.{take-nil, get_or-take}
+use Rattle.std.proofs.Common.{ℕ, zero, suc, ◌+◌, ◌-◌, ◌*◌, ◌≤◌, ◌<◌, arith, ◌≡◌, refl, sym, ap, ◌∙◌, List, [], ◌∷◌, leb, eqb, length, take, drop, get_or-take}
+use Rattle.std.proofs.Math.Dec.{leb-zero, leb-suc-suc, eqb-suc-zero}
+use Rattle.std.proofs.Math.Seq.{take-nil}
 use Rattle.layout.specs.Contents.{Contents}
 use Rattle.layout.specs.Answers.{asks, first_no}
 use Rattle.limits.specs.Limits.{head_asks}

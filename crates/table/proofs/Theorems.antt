@@ -1,18 +1,9 @@
 -- What is promised of tables, loading and writing. `load_of bs` is what loading the bytes bs comes to, `loaded c` the table c.
 -- Assumes nothing.
-use Prim.Native.Nat.{ℕ, ◌+◌, ◌≤◌}
-use native.Mathlib.Omega.{arith}
-use mathlib.Core.Path.{◌≡◌, refl, sym, ap, ◌∙◌, subst}
-use mathlib.Core.Logic.{◌↔◌}
-use mathlib.Core.Bool.{Bool, true, false, cond}
-use mathlib.Core.List.{List, [], ◌∷◌, ◌++◌}
-use lib.Dec.{T}
-use borrow.Author.Tests.{le-leb}
-use mir.Facts.{yes_and}
+use Rattle.std.proofs.Common.{ℕ, ◌+◌, ◌≤◌, arith, ◌≡◌, refl, sym, ap, ◌∙◌, subst, ◌↔◌, Bool, true, false, cond, List, [], ◌∷◌, ◌++◌, T, le-leb, length, take, drop, pos}
+use Rattle.std.proofs.Math.Facts.{yes_and}
+use Rattle.std.proofs.Math.Seq.{take-append-add}
 use Rattle.arith.proofs.Bools.{true_of}
-use lib.ListN.{length, take, drop}
-use lib.IntN.{pos}
-use lib.Seq.{take-append-add}
 use Rattle.layout.specs.declared.Table.{Table}
 use Rattle.layout.specs.Contents.{Contents, contents}
 use Rattle.layout.specs.Answers.{refused as refusal, accepted, wrote}

@@ -1,11 +1,12 @@
 -- The table file: reading it by the questions in their order, and writing it.
 -- Assumes nothing.
-use Rattle.std.specs.Prelude.{ℕ, zero, suc, ◌+◌, ◌*◌, ◌/◌, ◌%◌, ◌<◌, Bool, cond, ◌&&◌, List, [], ◌∷◌, ◌++◌, leb, eqb, length, get_or, drop}
+use Rattle.std.specs.Prelude.{ℕ, zero, suc, ◌+◌, ◌*◌, ◌/◌, ◌%◌, ◌<◌, Bool, cond, ◌&&◌, List, [], ◌∷◌, ◌++◌, leb, eqb, length, get_or, drop, Result, Ok, Err}
 use Rattle.arith.specs.Twos.{signed, unsigned}
 use Rattle.layout.specs.declared.Rect.{Rect}
 use Rattle.layout.specs.declared.Table.{Table}
+use Rattle.layout.specs.declared.asking.Refusal.{Refusal}
 use Rattle.layout.specs.Contents.{Contents, no_rects, table_of}
-use Rattle.layout.specs.Answers.{Said, refused as refusal, accepted, Question, asks, first_no}
+use Rattle.layout.specs.Answers.{Said, refused as refusal, accepted, no_said, result_said, Question, asks, first_no}
 use Rattle.limits.specs.Limits.{head_asks, rect_good, value_good}
 
 -- a file is a sequence of bytes
@@ -104,6 +105,15 @@ handed said table = record { said = said; table = table }
 
 abbrev pub handed_out : Outcome → Handed
 handed_out o = handed (said_of o) (table_from o)
+
+-- what a reading says: nothing of the value that was read
+abbrev pub read_said : {A : Type 0} → Result A Refusal → Said
+read_said v = result_said (λ x. []) v
+
+-- the same of what the code answers, where a refusal has no table
+abbrev pub given : Result Table Refusal → Handed
+given (Ok t) = handed (accepted []) t
+given (Err r) = handed (no_said r) (table_of (no_rects 0 0 0 0 0 0))
 
 -- ---- writing
 

@@ -1,3 +1,4 @@
 pub mod Format
+pub mod Headers
 pub mod Before
 pub mod Writing

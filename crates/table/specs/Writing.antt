@@ -1,18 +1,16 @@
 -- What writing a table says, and what it leaves in the output.
 -- Assumes nothing.
-use Rattle.std.specs.Prelude.{ℕ, ◌+◌, ◌*◌, List, [], ◌∷◌, ◌++◌, leb, length, drop, pos}
+use Rattle.std.specs.Prelude.{ℕ, ◌+◌, ◌*◌, List, [], ◌∷◌, ◌++◌, leb, length, drop, pos, Result}
 use Rattle.layout.specs.declared.Table.{Table}
-use Rattle.table.specs.declared.writing.Written.{Written}
-use Rattle.table.specs.declared.writing.Written.TheVariants.{Length, Refused as NotWritten}
+use Rattle.layout.specs.declared.asking.Refusal.{Refusal}
 use Rattle.layout.specs.Contents.{contents}
-use Rattle.layout.specs.Answers.{Said, refused, accepted, asks, first_no, Wrote, wrote}
+use Rattle.layout.specs.Answers.{Said, refused, accepted, result_said, asks, first_no, Wrote, wrote}
 use Rattle.limits.specs.Limits.{acceptable}
 use Rattle.table.specs.Format.{encode}
 
 -- an answer in the rules' numbers
-abbrev pub written_said : Written → Said
-written_said (Length n) = accepted (pos n ∷ [])
-written_said (NotWritten number place) = refused number place
+abbrev pub written_said : Result ℕ Refusal → Said
+written_said v = result_said (λ n. pos n ∷ []) v
 
 -- the length of the file of a table: 9 + 9·(rectangles)
 abbrev pub file_length : Table → ℕ

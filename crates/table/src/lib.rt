@@ -1,17 +1,16 @@
-// The table file: loading it, checking it, and writing it.
-//
-//   load         the verdict and the table, by questions 1 to 10
-//   parse        the same without question 10
-//   table_check  0 or the number of the refusal
-//   read_most    156: how many bytes of a file decide what loading answers
-//   bare         a table of a header's numbers and no rectangle
-//   refused      a refusal as loading hands it out
-//   write        the length 9 + 9·(rectangles), the file at the start of the output; or a refusal, 11 or 13
+//! The table file: loading it, checking it, and writing it.
+//!
+//!   load         the table, by questions 1 to 10; or a refusal
+//!   parse        the same without question 10
+//!   table_check  0 or the number of the refusal
+//!   read_most    156: how many bytes of a file decide what loading answers
+//!   bare         a table of a header's numbers and no rectangle
+//!   write        the length 9 + 9·(rectangles), the file at the start of the output; or a refusal, 11 or 13
 #![tactic(auto)]
 
 mod loading;
 mod reading;
 mod writing;
 
-pub use loading::{Loaded, bare, load, parse, read_most, refused, table_check};
-pub use writing::{Written, write};
+pub use loading::{bare, load, parse, read_most, table_check};
+pub use writing::write;

@@ -1,23 +1,16 @@
-// Loading a table from the bytes of its file.
-ghost use Rattle.std.specs.Prelude.{◌≡◌, ◌≤◌, length, drop};
+//! Loading a table from the bytes of its file.
+ghost use Rattle.std.specs.Prelude.{◌≡◌};
 ghost use Rattle.layout.specs.Contents.{no_rects, table_of};
-ghost use Rattle.layout.specs.Answers.{said};
-ghost use Rattle.table.specs.Format.{head_of, fields_of, parse_of, load_of, read_most, said_of, handed, handed_out};
+ghost use Rattle.table.specs.Format.{fields_of, parse_of, load_of, read_most, said_of, handed_out, given};
 
-use crate::reading::{field, header, rect_of};
-use layout::{Rect, Table, Verdict};
-use limits::value_good;
+use crate::reading::{field, header};
+use layout::{Question, Rect, Refusal, Table};
+use limits::{Header, value_good};
 
-// What loading answers: the verdict, and the table, which has no rectangle where the file was refused.
-#[derive(Clone, Copy)]
-pub struct Loaded {
-    pub verdict: Verdict,
-    pub table: Table,
-}
-
-// A table of these numbers and no rectangle.
-pub fn bare(b: u8, q1: u8, q2: u8, q3: u8, t: u8, w: u8) -> Table
-    ensures { result ≡ table_of (no_rects b q1 q2 q3 t w) }
+/// A table of a header's numbers and no rectangle.
+#[tactic(auto, unfolding(arith::specs::Tab::tab))]
+pub fn bare(header: Header) -> Table
+    ensures { result ≡ table_of (no_rects header.b header.q1 header.q2 header.q3 header.t header.w) }
 {
     let none = Rect {
         leadrow: 0,
@@ -26,110 +19,64 @@ pub fn bare(b: u8, q1: u8, q2: u8, q3: u8, t: u8, w: u8) -> Table
         trailcol: 0,
         weight: 0,
     };
-    let rects = [none; 16];
     Table {
-        b,
-        q1,
-        q2,
-        q3,
-        t,
-        w,
+        b: header.b,
+        q1: header.q1,
+        q2: header.q2,
+        q3: header.q3,
+        t: header.t,
+        w: header.w,
         count: 0,
-        rects,
+        rects: [none; 16],
     }
 }
 
-// A refusal, with a table of zeros and no rectangle.
-pub fn refused(number: u32, place: u32) -> Loaded
-    ensures verdict_value { result.verdict ≡ Verdict.Refused number place }
-    ensures table_value { result.table ≡ table_of (no_rects 0 0 0 0 0 0) }
+/// The table of a header and the fields after it.
+fn fields(bytes: &[u8], header: Header) -> Result<Table, Refusal>
+    ensures { given result ≡ handed_out (fields_of 16 bytes.now (no_rects header.b header.q1 header.q2 header.q3 header.t header.w)) }
 {
-    let table = bare(0, 0, 0, 0, 0, 0);
-    Loaded {
-        verdict: Verdict::Refused(number, place),
-        table,
+    let mut table = bare(header);
+    let mut rest = bytes;
+    while !rest.is_empty() {
+        let rect = field(16 - table.count, rest)?;
+        table.rects[table.count] = rect;
+        table.count += 1;
+        rest = rest.split_at(9).1;
     }
+    Refusal::unless(table.count >= 1, Question::Rectangle)?;
+    Ok(table)
 }
 
-// A table of the header's numbers and no rectangle.
-fn head_of(bytes: &[u8]) -> Table
-    requires { 9 ≤ length bytes.now }
-    ensures { result ≡ table_of (head_of bytes.now) }
+/// Reading: questions 1 to 9.
+pub fn parse(bytes: &[u8]) -> Result<Table, Refusal>
+    ensures { given result ≡ handed_out (parse_of bytes.now) }
 {
-    bare(bytes[3], bytes[4], bytes[5], bytes[6], bytes[7], bytes[8])
+    let header = header(bytes)?;
+    fields(bytes.split_at(9).1, header)
 }
 
-// The fields after the header.
-fn fields(bytes: &[u8], start: Table) -> Loaded
-    requires in_bounds { 9 ≤ length bytes.now }
-    requires start_value { start ≡ table_of (head_of bytes.now) }
-    ensures { handed (said result.verdict) result.table
-        ≡ handed_out (fields_of 16 (drop 9 bytes.now) (head_of bytes.now)) }
+/// Loading: questions 1 to 10.
+pub fn load(bytes: &[u8]) -> Result<Table, Refusal>
+    ensures { given result ≡ handed_out (load_of bytes.now) }
 {
-    let mut t = start;
-    let mut at = 9;
-    while at < bytes.len() {
-        let count = t.count;
-        let rest = &bytes[at..];
-        let v = field(16 - count, rest);
-        match v {
-            Verdict::Refused(number, place) => return refused(number, place),
-            Verdict::Accepted => {}
-        }
-        t.rects[count] = rect_of(rest);
-        t.count = count + 1;
-        at += 9;
-    }
-    if t.count == 0 {
-        return refused(9, 0);
-    }
-    Loaded {
-        verdict: Verdict::Accepted,
-        table: t,
-    }
+    let table = parse(bytes)?;
+    Refusal::unless(value_good(table), Question::Extremes)?;
+    Ok(table)
 }
 
-// Questions 1 to 9.
-pub fn parse(bytes: &[u8]) -> Loaded
-    ensures { handed (said result.verdict) result.table ≡ handed_out (parse_of bytes.now) }
-{
-    let v = header(bytes);
-    match v {
-        Verdict::Refused(number, place) => refused(number, place),
-        Verdict::Accepted => fields(bytes, head_of(bytes)),
-    }
-}
-
-// Loading: questions 1 to 10.
-pub fn load(bytes: &[u8]) -> Loaded
-    ensures { handed (said result.verdict) result.table ≡ handed_out (load_of bytes.now) }
-{
-    let read = parse(bytes);
-    let v = read.verdict;
-    match v {
-        Verdict::Refused(_, _) => read,
-        Verdict::Accepted => {
-            let t = read.table;
-            if value_good(t) { read } else { refused(10, 0) }
-        }
-    }
-}
-
-// How many bytes of a file are enough to load it: whoever reads no more is answered as for the whole file.
+/// How many bytes of a file are enough to load it: whoever reads no more is answered as for the whole file.
 pub fn read_most() -> usize
     ensures { result ≡ read_most }
 {
     156
 }
 
-// The check: 0 where the file is accepted, else the number of the refusal.
+/// The check: 0 where the file is accepted, else the number of the refusal. C has the number alone (C: strip_table_check).
 pub fn table_check(bytes: &[u8]) -> u32
     ensures { result ≡ (said_of (load_of bytes.now)).number }
 {
-    let loaded = load(bytes);
-    let v = loaded.verdict;
-    match v {
-        Verdict::Refused(number, _) => number,
-        Verdict::Accepted => 0,
+    match load(bytes) {
+        Ok(_) => 0,
+        Err(refusal) => refusal.question.number(),
     }
 }

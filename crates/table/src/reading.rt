@@ -1,70 +1,67 @@
-// The parts of a table file.
-ghost use Rattle.std.specs.Prelude.{◌≡◌, ◌≤◌, length};
+//! The parts of a table file.
+ghost use Rattle.std.specs.Prelude.{◌≡◌, ◌≤◌, ◌<◌, length, IfOk, OnOk};
 ghost use Rattle.layout.specs.Answers.{verdict};
-ghost use Rattle.table.specs.Format.{marked, rect_of, header_asks, field_asks};
+ghost use Rattle.table.specs.Format.{marked, rect_of, header_asks, field_asks, read_said};
+ghost use Rattle.table.specs.Headers.{header_of};
 
-use arith::{signed_byte, signed_word};
-use layout::{Rect, Verdict};
-use limits::{head, rect_good};
+use layout::{Question, Rect, Refusal};
+use limits::{Header, rect_good};
 
-// Whether a field begins with this tag and the length 6.
+/// Whether a field begins with this tag and the length 6.
+#[tactic(auto, unfolding(crate::specs::Format::marked))]
 fn starts(tag: u8, bytes: &[u8]) -> bool
     ensures { result ≡ marked tag bytes.now }
 {
-    if bytes.len() < 3 {
-        return false;
-    }
-    if bytes[0] != tag {
-        return false;
-    }
-    if bytes[1] != 0 {
-        return false;
-    }
-    bytes[2] == 6
+    bytes.starts_with(&[tag, 0, 6])
 }
 
-// Questions 1 to 5, on the header.
-pub fn header(bytes: &[u8]) -> Verdict
-    ensures { result ≡ verdict (header_asks bytes.now) }
+/// The header, by questions 1 to 5.
+#[tactic(auto, unfolding(crate::specs::Format::header_asks))]
+pub fn header(bytes: &[u8]) -> Result<Header, Refusal>
+    ensures said { read_said result ≡ verdict (header_asks bytes.now) }
+    ensures value { IfOk result (λ h. h ≡ header_of bytes.now) }
+    ensures whole { OnOk result (9 ≤ length bytes.now) }
 {
-    if !starts(1, bytes) {
-        return Verdict::Refused(1, 0);
-    }
-    if bytes.len() < 9 {
-        return Verdict::Refused(2, 0);
-    }
-    head(bytes[3], bytes[4], bytes[5], bytes[6], bytes[7], bytes[8])
+    Refusal::unless(starts(1, bytes), Question::Header)?;
+    Refusal::unless(bytes.len() >= 9, Question::Contents)?;
+    let header = Header {
+        b: bytes[3],
+        q1: bytes[4],
+        q2: bytes[5],
+        q3: bytes[6],
+        t: bytes[7],
+        w: bytes[8],
+    };
+    header.ask()?;
+    Ok(header)
 }
 
-// Questions 7, 6, 2 and 8, on a further field where `left` rectangles more may be read.
-pub fn field(left: usize, bytes: &[u8]) -> Verdict
-    ensures { result ≡ verdict (field_asks left bytes.now) }
-{
-    if !starts(2, bytes) {
-        return Verdict::Refused(7, 0);
-    }
-    if left < 1 {
-        return Verdict::Refused(6, 0);
-    }
-    if bytes.len() < 9 {
-        return Verdict::Refused(2, 0);
-    }
-    if !rect_good(rect_of(bytes)) {
-        return Verdict::Refused(8, 0);
-    }
-    Verdict::Accepted
-}
-
-// The rectangle of a field.
-pub fn rect_of(bytes: &[u8]) -> Rect
+/// The rectangle of a field.
+fn rect_of(bytes: &[u8]) -> Rect
     requires { 9 ≤ length bytes.now }
     ensures { result ≡ rect_of bytes.now }
 {
     Rect {
-        leadrow: signed_byte(bytes[3]),
-        leadcol: signed_byte(bytes[4]),
-        trailrow: signed_byte(bytes[5]),
-        trailcol: signed_byte(bytes[6]),
-        weight: signed_word(bytes[7], bytes[8]),
+        leadrow: bytes[3].cast_signed(),
+        leadcol: bytes[4].cast_signed(),
+        trailrow: bytes[5].cast_signed(),
+        trailcol: bytes[6].cast_signed(),
+        weight: i16::from_be_bytes([bytes[7], bytes[8]]),
     }
+}
+
+/// The rectangle of a further field, by questions 7, 6, 2 and 8, where `left` rectangles more may be read.
+#[tactic(auto, unfolding(crate::specs::Format::field_asks))]
+pub fn field(left: usize, bytes: &[u8]) -> Result<Rect, Refusal>
+    ensures said { read_said result ≡ verdict (field_asks left bytes.now) }
+    ensures value { IfOk result (λ r. r ≡ rect_of bytes.now) }
+    ensures room { OnOk result (0 < left) }
+    ensures whole { OnOk result (9 ≤ length bytes.now) }
+{
+    Refusal::unless(starts(2, bytes), Question::Field)?;
+    Refusal::unless(left >= 1, Question::Room)?;
+    Refusal::unless(bytes.len() >= 9, Question::Contents)?;
+    let rect = rect_of(bytes);
+    Refusal::unless(rect_good(rect), Question::Edges)?;
+    Ok(rect)
 }

@@ -1,13 +1,7 @@
 -- The lines of a shown table: each is of its kind and its form, and says the numbers that it was made of.
 -- Assumes nothing.
-use Prim.Native.Nat.{ℕ, suc, ◌<◌}
-use native.Mathlib.Omega.{arith}
-use mathlib.Core.Path.{◌≡◌, refl, ap, ◌∙◌}
-use mathlib.Core.Bool.{true}
-use mathlib.Core.List.{List, [], ◌∷◌}
-use lib.ListN.{length}
-use borrow.Author.Tests.{ne_eqb}
-use lib.Signed.{mag}
+use Rattle.std.proofs.Common.{ℕ, suc, ◌<◌, arith, ◌≡◌, refl, ap, ◌∙◌, true, List, [], ◌∷◌, length, ne_eqb}
+use Rattle.std.specs.Int.Signed.{mag}
 use Rattle.arith.specs.Twos.{fits_signed}
 use Rattle.arith.proofs.Bools.{true_of}
 use Rattle.arith.proofs.Words.{fits_mag}

@@ -1,15 +1,8 @@
 -- The decimal digits of a number, and an integer with its sign, read back.
 -- Assumes nothing.
-use Prim.Native.Nat.{ℕ, zero, suc, ◌+◌, ◌-◌, ◌*◌, ◌/◌, ◌%◌, ◌≤◌, ◌<◌}
-use native.Mathlib.Omega.{arith}
-use mathlib.Core.Path.{◌≡◌, refl, ap, ◌∙◌}
-use mathlib.Core.Bool.{Bool, true, false, cond, not, ◌&&◌, ◌||◌, false≢true}
-use mathlib.Core.List.{List, [], ◌∷◌, ◌++◌}
-use lib.Dec.{leb, ltb, eqb}
-use lib.ListN.{length, drop, length-append}
-use lib.IntN.{ℤ, pos, negsuc, neg_ℤ}
-use lib.Signed.{mag}
-use borrow.Author.Tests.{lt-ltb, le-leb, leb-true, ltb-true, eq-eqb, ne_eqb}
+use Rattle.std.proofs.Common.{ℕ, zero, suc, ◌+◌, ◌-◌, ◌*◌, ◌/◌, ◌%◌, ◌≤◌, ◌<◌, arith, ◌≡◌, refl, ap, ◌∙◌, Bool, true, false, cond, not, ◌&&◌, ◌||◌, List, [], ◌∷◌, ◌++◌, leb, ltb, eqb, length, drop, length-append, ℤ, pos, negsuc, neg_ℤ, lt-ltb, le-leb, leb-true, ltb-true, eq-eqb, ne_eqb}
+use Rattle.std.proofs.Math.Bool.{false≢true}
+use Rattle.std.specs.Int.Signed.{mag}
 use Rattle.pgm.specs.Grammar.{digit, digits, number}
 use Rattle.text.specs.Text.{spell, decimal}
 use Rattle.words.specs.Words.{gap, spelt, minus, sign, is_number, is_integer, size, with_sign, integer}

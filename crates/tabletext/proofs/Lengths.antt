@@ -1,10 +1,6 @@
 -- How long the text of a table is.
 -- Assumes nothing.
-use Prim.Native.Nat.{ℕ, ◌+◌, ◌*◌, ◌≤◌}
-use native.Mathlib.Omega.{arith}
-use mathlib.Core.List.{List, [], ◌∷◌, ◌++◌}
-use lib.ListN.{length, length-append}
-use lib.IntN.{ℤ}
+use Rattle.std.proofs.Common.{ℕ, ◌+◌, ◌*◌, ◌≤◌, arith, List, [], ◌∷◌, ◌++◌, length, length-append, ℤ}
 use Rattle.layout.specs.declared.Rect.{Rect}
 use Rattle.layout.specs.Contents.{Contents}
 use Rattle.text.specs.Text.{cell, signed_cell}

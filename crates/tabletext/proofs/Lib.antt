@@ -4,6 +4,5 @@ pub mod Shown
 pub mod Asked
 pub mod Made
 pub mod Lengths
-pub mod Accepted
 pub mod Numbers
 pub mod Theorems

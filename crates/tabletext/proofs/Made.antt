@@ -1,13 +1,6 @@
 -- What is made of a text whose lines are those of a shown table.
 -- Assumes nothing.
-use Prim.Native.Nat.{ℕ, suc, ◌-◌, ◌≤◌, ◌<◌}
-use native.Mathlib.Omega.{arith}
-use mathlib.Core.Path.{◌≡◌, refl, sym, ap, ap₂, ◌∙◌, subst}
-use mathlib.Core.Bool.{cond}
-use mathlib.Core.List.{List, [], ◌∷◌, ◌++◌}
-use lib.Dec.{leb}
-use lib.ListN.{length, get_or}
-use borrow.Author.Tests.{le-leb, leb-true, ltb-true, ne_eqb}
+use Rattle.std.proofs.Common.{ℕ, suc, ◌-◌, ◌≤◌, ◌<◌, arith, ◌≡◌, refl, sym, ap, ap₂, ◌∙◌, subst, cond, List, [], ◌∷◌, ◌++◌, leb, length, get_or, le-leb, leb-true, ltb-true, ne_eqb}
 use Rattle.arith.proofs.Bools.{true_of}
 use Rattle.layout.specs.declared.Rect.{Rect}
 use Rattle.layout.specs.Contents.{Contents}

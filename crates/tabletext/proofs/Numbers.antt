@@ -1,12 +1,6 @@
 -- What a table's text is refused with.
 -- Assumes nothing.
-use Prim.Native.Nat.{ℕ, zero, suc, ◌+◌, ◌-◌, ◌≤◌}
-use native.Mathlib.Omega.{arith}
-use mathlib.Core.Path.{◌≡◌, subst}
-use mathlib.Core.Bool.{Bool, true, false, cond}
-use mathlib.Core.List.{List, [], ◌∷◌, ◌++◌}
-use lib.Dec.{T, leb, ltb, eqb}
-use lib.ListN.{length, get_or}
+use Rattle.std.proofs.Common.{ℕ, zero, suc, ◌+◌, ◌-◌, ◌≤◌, arith, ◌≡◌, subst, Bool, true, false, cond, List, [], ◌∷◌, ◌++◌, T, leb, ltb, eqb, length, get_or}
 use Rattle.layout.specs.Contents.{Contents}
 use Rattle.layout.specs.Answers.{Question, asks, first_no}
 use Rattle.limits.specs.Limits.{value_good}

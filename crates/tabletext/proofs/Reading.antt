@@ -1,11 +1,7 @@
 -- Words with spaces between, and lines one after the other, read back.
 -- Assumes nothing.
-use Prim.Native.Nat.{ℕ}
-use mathlib.Core.Path.{◌≡◌, refl, sym, ap, ◌∙◌}
-use mathlib.Core.Bool.{Bool, true, false, not, ◌&&◌, ◌||◌, false≢true}
-use mathlib.Core.List.{List, [], ◌∷◌, ◌++◌, append_assoc, append-nil}
-use lib.Dec.{ltb, eqb}
-use lib.ListN.{length}
+use Rattle.std.proofs.Common.{ℕ, ◌≡◌, refl, sym, ap, ◌∙◌, Bool, true, false, not, ◌&&◌, ◌||◌, List, [], ◌∷◌, ◌++◌, append_assoc, append-nil, ltb, eqb, length}
+use Rattle.std.proofs.Math.Bool.{false≢true}
 use Rattle.words.specs.Words.{gap, ended, words_from, words_of, lines_from, words_of_each, lines_of}
 use Rattle.tabletext.proofs.Digits.{both, every, plain, is_word}
 

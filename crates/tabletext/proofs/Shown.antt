@@ -1,9 +1,6 @@
 -- The text of a table, line by line, read as words.
 -- Assumes nothing.
-use Prim.Native.Nat.{ℕ}
-use mathlib.Core.Path.{◌≡◌, refl, ap, ◌∙◌}
-use mathlib.Core.List.{List, [], ◌∷◌, ◌++◌, append_assoc}
-use lib.IntN.{ℤ, pos, negsuc}
+use Rattle.std.proofs.Common.{ℕ, ◌≡◌, refl, ap, ◌∙◌, List, [], ◌∷◌, ◌++◌, append_assoc, ℤ, pos, negsuc}
 use Rattle.layout.specs.declared.Rect.{Rect}
 use Rattle.layout.specs.Contents.{Contents}
 use Rattle.text.specs.Text.{decimal, cell, signed_cell}

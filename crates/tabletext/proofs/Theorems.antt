@@ -1,13 +1,7 @@
 -- What is promised of a table as text. `shown_text c` is what is shown of the table c, `make_of text` what a text comes to.
 -- Assumes nothing.
-use Prim.Native.Nat.{ℕ}
-use native.Mathlib.Omega.{arith}
-use mathlib.Core.Path.{◌≡◌, refl, sym, ap, ◌∙◌}
-use mathlib.Core.Bool.{Bool, true, false, cond}
-use mathlib.Core.List.{List, [], ◌∷◌, ◌++◌, append-nil}
-use lib.Dec.{T}
-use lib.ListN.{length-append}
-use mir.Facts.{and_yes}
+use Rattle.std.proofs.Common.{ℕ, arith, ◌≡◌, refl, sym, ap, ◌∙◌, Bool, true, false, cond, List, [], ◌∷◌, ◌++◌, append-nil, T, length-append}
+use Rattle.std.proofs.Math.Facts.{and_yes}
 use Rattle.arith.proofs.Bools.{true_of}
 use Rattle.layout.specs.Contents.{Contents}
 use Rattle.limits.specs.Limits.{value_good, shaped, within}
@@ -23,7 +17,7 @@ use Rattle.tabletext.specs.Numbers.{among, make_numbers}
 use Rattle.tabletext.proofs.Shown.{shown_words, text_again}
 use Rattle.tabletext.proofs.Made.{silent_none, silent_blank, made}
 use Rattle.tabletext.proofs.Lengths.{text_length, remark-length}
-use Rattle.tabletext.proofs.Accepted.{accepted}
+use Rattle.making.proofs.Written.{made_within}
 use Rattle.tabletext.proofs.Numbers.{make_number}
 
 -- the comment is a line without words
@@ -78,7 +72,7 @@ shown_refused bs c byte e n = shown_loads bs c byte e ∙ (load_ten bs c e).1 n
 
 -- a text of which a table is made: the table's file is loaded as that table
 pub made_loads : (text : List ℕ) (c : Contents) → make_of text ≡ loaded c → load_of (encode c) ≡ loaded c
-made_loads text c e = every_table_loads c (accepted text c e)
+made_loads text c e = every_table_loads c (made_within text c e)
 
 -- a text is refused with 3 to 6, 8 to 10 or 101 to 113
 pub make_numbers_lem : (text : List ℕ) (n p : ℕ) → make_of text ≡ refused n p → T (among n make_numbers)

@@ -3,3 +3,4 @@ pub mod Cells
 pub mod Feeds
 pub mod Pieces
 pub mod Widths
+pub mod Printed

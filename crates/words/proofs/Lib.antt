@@ -1,3 +1,3 @@
 pub mod Alike
 pub mod Steps
-pub mod Lines
+pub mod Digits

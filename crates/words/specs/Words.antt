@@ -1,6 +1,6 @@
 -- The words of a line, the numbers that they spell, and the lines of a text.
 -- Assumes nothing.
-use Rattle.std.specs.Prelude.{ℕ, ◌+◌, ◌-◌, ◌≤◌, ◌≡◌, Bool, true, false, cond, ◌&&◌, ◌||◌, List, [], ◌∷◌, ◌++◌, ltb, eqb, length, get_or, take, drop, ℤ, pos, neg_ℤ}
+use Rattle.std.specs.Prelude.{ℕ, ◌+◌, Bool, true, false, cond, ◌&&◌, ◌||◌, List, [], ◌∷◌, ◌++◌, ltb, eqb, length, get_or, drop, ℤ, pos, neg_ℤ}
 use Rattle.pgm.specs.Grammar.{digits, number}
 
 -- ---- words
@@ -8,6 +8,10 @@ use Rattle.pgm.specs.Grammar.{digits, number}
 -- between words stand spaces, tabs and carriage returns
 unfoldable pub gap : ℕ → Bool
 gap b = eqb b 32 || (eqb b 9 || eqb b 13)
+
+-- a byte ends a word that has begun
+abbrev pub ends : ℕ → Bool
+ends b = gap b || eqb b 35
 
 -- words after what stands before them: a word, or nothing
 unfoldable pub ended : (word : List ℕ) → List (List ℕ) → List (List ℕ)
@@ -76,19 +80,3 @@ words_of_each (line ∷ lines) = words_of line ∷ words_of_each lines
 -- a text, line by line, as its words
 unfoldable pub lines_of : List ℕ → List (List (List ℕ))
 lines_of text = words_of_each (lines_from [] text)
-
--- ---- what the calls say
-
--- bytes `start` to `end` of a line are its next word from place `at` on; they are none where there is no more word
-pub record Next (line : List ℕ) (at start end : ℕ) : Type 0 where
-  pub from : at ≤ start
-  pub forth : start ≤ end
-  pub within : end ≤ length line
-  pub words : words_of (drop at line) ≡ ended (take (end - start) (drop start line)) (words_of (drop end line))
-  pub none : start ≡ end → words_of (drop end line) ≡ []
-
--- they are word k of the line, counted from 0; they are none where there are not so many
-pub record IsWord (line : List ℕ) (k start end : ℕ) : Type 0 where
-  pub forth : start ≤ end
-  pub within : end ≤ length line
-  pub is : take (end - start) (drop start line) ≡ get_or (words_of line) k []

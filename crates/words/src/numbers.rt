@@ -1,77 +1,71 @@
-// The numbers that words spell.
-ghost use Rattle.std.specs.Prelude.{◌≡◌, ◌≤◌, min, [], length, get_or};
+//! The numbers that words spell.
+ghost use Rattle.std.specs.Prelude.{◌≡◌, ◌↔◌, ◌<◌, min, [], length, get_or, drop, IsTrue, All};
+ghost use Rattle.std.specs.Char.{is_ascii_digit};
 ghost use Rattle.words.specs.Words.{words_of, spelt, minus, sign, is_number, is_integer, size};
 
 use crate::parts::word;
 
-// Whether a word has digits only from a place on, and at least one.
-fn spelt(w: &[u8], at: usize) -> bool
-    ensures { result ≡ spelt w.now at }
+/// Whether each byte of a word is a digit.
+fn is_digits(w: &[u8]) -> bool
+    ensures { IsTrue result ↔ All (λ b. IsTrue (is_ascii_digit b)) w.now }
 {
-    if w.len() <= at {
-        return false;
-    }
-    pgm::number(w, at).end == w.len()
+    w.iter().all(|b| b.is_ascii_digit())
 }
 
-// Whether a word begins with -.
+/// Whether a word has digits only, and at least one.
+fn spelt(w: &[u8]) -> bool
+    ensures { result ≡ spelt w.now 0 }
+{
+    !w.is_empty() && is_digits(w)
+}
+
+/// Whether a word begins with -.
+#[tactic(auto, unfolding(crate::specs::Words::minus))]
 fn minus(w: &[u8]) -> bool
-    ensures { result ≡ minus w.now }
+    ensures value { result ≡ minus w.now }
+    ensures within { IsTrue result → 0 < length w.now }
 {
-    if w.len() == 0 {
-        return false;
-    }
-    w[0] == b'-'
+    !w.is_empty() && w[0] == b'-'
 }
 
-// Where the digits of a word begin.
-fn sign(w: &[u8]) -> usize
-    ensures { result ≡ sign w.now }
+/// A word without the - that it may begin with.
+#[tactic(auto, unfolding(crate::specs::Words::sign))]
+fn unsigned(w: &[u8]) -> &[u8]
+    ensures { result.now ≡ drop (sign w.now) w.now }
 {
-    if minus(w) { 1 } else { 0 }
+    if minus(w) { &w[1..] } else { w }
 }
 
-// Whether a word is a number without a sign.
+/// Whether a word is a number without a sign.
+#[tactic(auto, unfolding(crate::specs::Words::is_number))]
 pub fn is_number(w: &[u8]) -> bool
     ensures { result ≡ is_number w.now }
 {
-    spelt(w, 0)
+    spelt(w)
 }
 
-// Whether a word is an integer.
+/// Whether a word is an integer.
 pub fn is_integer(w: &[u8]) -> bool
     ensures { result ≡ is_integer w.now }
 {
-    let at = sign(w);
-    spelt(w, at)
+    spelt(unsigned(w))
 }
 
-// A number: whether it has a - in front, and its size, held at 65,536 where it is larger.
-#[derive(Clone, Copy)]
+/// A number: whether it has a - in front, and its size, held at 65,536 where it is larger.
+#[derive(Clone, Copy, Debug, PartialEq, Eq)]
 pub struct Signed {
-    pub minus: bool,
+    pub minus: bool, // (C) no i32: `minus_value` of `number` tells -0 from 0
     pub size: u32,
 }
 
-// The number that a word spells.
-fn value(w: &[u8]) -> Signed
-    ensures { (result.minus ≡ minus w.now) × (result.size ≡ min 65536 (size w.now)) }
-{
-    let at = sign(w);
-    let found = pgm::number(w, at);
-    Signed {
-        minus: minus(w),
-        size: found.value,
-    }
-}
-
-// The number that word k of a line spells.
+/// The number that word k of a line spells.
 pub fn number(line: &[u8], k: usize) -> Signed
     ensures minus_value { result.minus ≡ minus (get_or (words_of line.now) k []) }
     ensures size_value { result.size ≡ min 65536 (size (get_or (words_of line.now) k [])) }
 {
-    let found = word(line, k);
-    let start = found.start;
-    let end = found.end;
-    value(&line[start..end])
+    let w = word(line, k);
+    Signed {
+        minus: minus(w),
+        size: pgm::number(unsigned(w), 0).value,
+    }
 }

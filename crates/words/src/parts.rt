@@ -1,97 +1,119 @@
-// Where the words of a line stand.
-ghost use Rattle.std.specs.Prelude.{◌≡◌, true, false, ◌||◌, eqb, ◌-◌, ◌≤◌, ◌<◌, length, get_or, take, drop};
-ghost use Rattle.words.specs.Words.{gap, ended, words_of, same, Next, IsWord};
+//! Where the words of a line and the lines of a text stand.
+ghost use Rattle.std.specs.Prelude.{◌≡◌, ◌||◌, ◌∷◌, ◌≤◌, eqb, not, [], length, get_or, take, MatchOption};
+ghost use Rattle.text.specs.Ascii.{line_length, after_line};
+ghost use Rattle.std.specs.List.{position};
+ghost use Rattle.words.specs.Words.{gap, ends, words_of};
 
-use text::Span;
-
-// Whether a byte stands between words.
+/// Whether a byte stands between words.
+#[tactic(auto, unfolding(crate::specs::Words::gap))]
 fn gap(b: u8) -> bool
     ensures { result ≡ gap b }
 {
-    if b == 32 {
-        return true;
+    b == b' ' || (b == b'\t' || b == b'\r')
+}
+
+/// Whether a word ends before this byte.
+fn ends(b: u8) -> bool
+    ensures { result ≡ ends b }
+{
+    gap(b) || b == b'#'
+}
+
+/// Where the first byte stands that is no gap.
+fn word_start(line: &[u8]) -> Option<usize>
+    ensures { result ≡ position (λ b. not (gap b)) line.now }
+{
+    line.iter().position(|&b| !gap(b))
+}
+
+/// Where the word ends that begins a line, `None` where it goes to the line's end.
+fn word_end(line: &[u8]) -> Option<usize>
+    ensures { result ≡ position ends line.now }
+{
+    line.iter().position(|&b| ends(b))
+}
+
+/// The next word of a line, and the line behind it.
+pub fn next_word(line: &[u8]) -> Option<(&[u8], &[u8])>
+    ensures { MatchOption result (words_of line.now ≡ []) (λ p. words_of line.now ≡ p.0.now ∷ words_of p.1.now) }
+{
+    let start = word_start(line)?;
+    let rest = &line[start..];
+    let end = word_end(rest).unwrap_or(rest.len());
+    if end == 0 {
+        None
+    } else {
+        Some(rest.split_at(end))
     }
-    if b == 9 { true } else { b == 13 }
 }
 
-// Whether a word ends before this byte.
-fn stop(b: u8) -> bool
-    ensures { result ≡ (gap b || eqb b 35) }
-{
-    if gap(b) { true } else { b == b'#' }
+/// The words of a line, one after the other. It holds what is left of the line.
+#[derive(Clone, Copy, Debug)]
+pub struct Words<'a>(pub &'a [u8]);
+
+impl<'a> Iterator for Words<'a> {
+    ghost use Rattle.std.specs.Iterator.{YieldsFirstBy, item_count};
+    ghost use Rattle.words.specs.Words.{words_of};
+
+    type Item = &'a [u8];
+
+    ghost next_gives = { YieldsFirstBy (λ w. w.now) (λ s. words_of s.0.now) };
+
+    ghost remaining = { item_count (λ s. words_of s.0.now) };
+
+    fn next(&mut self) -> Option<&'a [u8]> {
+        let (word, rest) = next_word(self.0)?;
+        self.0 = rest;
+        Some(word)
+    }
 }
 
-// Past the gaps from a place on.
-fn past_gaps(line: &[u8], at: usize) -> usize
-    requires { at ≤ length line.now }
-    ensures { (at ≤ result) × (result ≤ length line.now) × (words_of (drop result line.now) ≡ words_of (drop at line.now))
-        × (result < length line.now → gap (get_or line.now result 0) ≡ false) }
+/// Word k of a line, counted from 0; empty where there are not so many.
+pub fn word(line: &[u8], k: usize) -> &[u8]
+    ensures { result.now ≡ get_or (words_of line.now) k [] }
 {
-    let mut i = at;
-    while i < line.len() {
-        if !gap(line[i]) {
-            return i;
+    Words(line).nth(k).unwrap_or(&[])
+}
+
+/// The lines of a text, one after the other: each ends with a line feed, the last may have none. It holds what is left of the text.
+#[derive(Clone, Copy, Debug)]
+pub struct Lines<'a>(pub &'a [u8]);
+
+/// Where the line ends that begins a text, `None` where it goes to the text's end.
+fn line_end(text: &[u8]) -> Option<usize>
+    ensures { result ≡ position (λ b. eqb b 10) text.now }
+{
+    text.iter().position(|&b| b == b'\n')
+}
+
+/// The line that begins a text, and the text behind its line feed.
+fn cut(text: &[u8]) -> (&[u8], &[u8])
+    ensures line { result.0.now ≡ take (line_length text.now) text.now }
+    ensures rest { result.1.now ≡ after_line text.now }
+{
+    match line_end(text) {
+        Some(end) => (&text[..end], &text[end + 1..]),
+        None => text.split_at(text.len()),
+    }
+}
+
+impl<'a> Iterator for Lines<'a> {
+    ghost use Rattle.std.specs.Prelude.{[]};
+    ghost use Rattle.std.specs.Iterator.{YieldsFirstBy, item_count};
+    ghost use Rattle.words.specs.Words.{lines_from};
+
+    type Item = &'a [u8];
+
+    ghost next_gives = { YieldsFirstBy (λ l. l.now) (λ s. lines_from [] s.0.now) };
+
+    ghost remaining = { item_count (λ s. lines_from [] s.0.now) };
+
+    fn next(&mut self) -> Option<&'a [u8]> {
+        if self.0.is_empty() {
+            return None;
         }
-        i += 1;
+        let (line, rest) = cut(self.0);
+        self.0 = rest;
+        Some(line)
     }
-    i
-}
-
-// Where the word ends that begins at a place: before a gap, a comment or the end of the line.
-fn word_end(line: &[u8], at: usize) -> usize
-    requires { at ≤ length line.now }
-    ensures { (at ≤ result) × (result ≤ length line.now)
-        × (words_of (drop at line.now) ≡ ended (take (result - at) (drop at line.now)) (words_of (drop result line.now)))
-        × (result < length line.now → (gap (get_or line.now result 0) ≡ false) → eqb (get_or line.now result 0) 35 ≡ true) }
-{
-    let mut i = at;
-    while i < line.len() {
-        if stop(line[i]) {
-            return i;
-        }
-        i += 1;
-    }
-    i
-}
-
-// Where the next word stands from a place on.
-pub fn next_word(line: &[u8], at: usize) -> Span
-    requires { at ≤ length line.now }
-    ensures { Next line.now at result.start result.end }
-{
-    let start = past_gaps(line, at);
-    Span {
-        start,
-        end: word_end(line, start),
-    }
-}
-
-// Word k of a line, counted from 0.
-pub fn word(line: &[u8], k: usize) -> Span
-    ensures { IsWord line.now k result.start result.end }
-{
-    let mut found = next_word(line, 0);
-    let mut left = k;
-    while 0 < left {
-        found = next_word(line, found.end);
-        left -= 1;
-    }
-    found
-}
-
-// Whether two words are the same.
-pub fn same(a: &[u8], b: &[u8]) -> bool
-    ensures { result ≡ same a.now b.now }
-{
-    if a.len() != b.len() {
-        return false;
-    }
-    let mut i = 0;
-    while i < a.len() {
-        if a[i] != b[i] {
-            return false;
-        }
-        i += 1;
-    }
-    true
 }

@@ -1,15 +1,9 @@
 -- `arith::floor_shift` meets its contract: the shift rounds down, and from 2^63 on the quotient is that by 2^63.
 -- Assumes nothing.
-use borrow.Author.Rules.{rules}
-use Prim.Native.Nat.{ℕ, ◌^◌}
-use native.Mathlib.Nat.{lt_of_le_of_lt, lt_of_lt_of_le}
-use mathlib.Core.Path.{◌≡◌, refl, ◌∙◌}
-use lib.IntN.{ℤ, pos, negsuc}
-use lib.Signed.{shr_z, mag_shr}
-use lib.Pow.{pow_mono}
+use Rattle.std.proofs.Common.{ℕ, zero, suc, ◌^◌, min, ◌≤◌, ◌<◌, arith, ⊎_elim, ◌⊎◌, inl, inr, lt_of_le_of_lt, lt_of_lt_of_le, ◌≡◌, refl, ap, ◌∙◌, ℤ, pos, negsuc, pow_mono, to_z-of_z}
+use Rattle.std.specs.Int.Signed.{mag, shr_z, mag_shr}
 use mir.Syntax.{w64}
 use mir.Val.{SFits, to_z, of_z}
-use mir.Facts.{to_z-of_z}
 use Rattle.arith.specs.Floor.{floor_div}
 use Rattle.arith.proofs.Floors.{floor_far}
 use Rattle.arith.proofs.floor.floor_shift.Goals as goal
@@ -23,10 +17,18 @@ shifted z t f = rw (to_z-of_z f) (to_z-of_z {w = w64} (record { sfits = lt_of_le
     same (pos n) t = refl
     same (negsuc n) t = refl
 
-pub returns-then-t-lt63 : goal.returns-then-t-lt63
-returns-then-t-lt63 c = shifted _ _ c.ranges.v
+capped : (z : ℤ) (t : ℕ) → mag z < 2 ^ 63 → floor_div z (min t 63) ≡ floor_div z t
+capped z t f = ⊎_elim
+    (λ (l : t ≤ 63). ap (floor_div z) (omega arith))
+    (λ (l : 63 ≤ t). ap (floor_div z) (omega arith) ∙ floor_far z 63 t f (lt_of_lt_of_le f (pow_mono {i = 63} l)))
+    (le_or t 63)
+  where
+    le_or : (m n : ℕ) → (m ≤ n) ⊎ (n ≤ m)
+    le_or zero n = inl (omega arith)
+    le_or (suc m) zero = inr (omega arith)
+    le_or (suc m) (suc n) = ⊎_elim (λ (l : m ≤ n). inl (omega arith)) (λ (l : n ≤ m). inr (omega arith)) (le_or m n)
 
-pub returns-else-t-lt63 : goal.returns-else-t-lt63
-returns-else-t-lt63 c = let a = c.args in
+pub returns : goal.returns
+returns c = let a = c.args in
     let f : SFits w64 a.v = c.ranges.v in
-    shifted a.v 63 f ∙ floor_far a.v 63 a.t f.sfits (lt_of_lt_of_le f.sfits (pow_mono {i = 63} (search rules)))
+    rw c.min.ensures (shifted a.v (min a.t 63) f ∙ capped a.v a.t f.sfits)

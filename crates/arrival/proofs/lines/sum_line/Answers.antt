@@ -1,17 +1,11 @@
 -- `arrival::sum_line` takes the running sums of the places from 32 on: the zeros before them add nothing, so each is the running sum of
 -- the whole line.
 -- Assumes nothing.
-use Prim.Native.Nat.{ℕ, suc, ◌+◌, ◌-◌, ◌%◌, ◌≤◌, ◌<◌}
-use native.Mathlib.Omega.{arith}
-use mathlib.Core.Path.{◌≡◌, sym, ap, ◌∙◌}
-use mathlib.Core.Bool.{Bool, true, false, not}
-use mathlib.Core.List.{List, ◌++◌}
-use lib.Dec.{T, ltb, ltb→lt, nltb→le}
-use lib.ListN.{length, get_or, drop}
+use Rattle.std.proofs.Common.{ℕ, suc, ◌+◌, ◌-◌, ◌%◌, ◌≤◌, ◌<◌, arith, ◌≡◌, sym, ap, ◌∙◌, Bool, true, false, not, List, T, ltb, ltb→lt, nltb→le, length, get_or}
 use borrow.Rule.Slice.PartMut.{put_mid}
 use Rattle.arith.specs.Tab.{tab}
+use Rattle.arith.proofs.Tabs.{length-tab, get_or-tab}
 use Rattle.arith.proofs.Parts.{part, part_at, part_length}
-use Rattle.arith.proofs.Passes.{pass_done, pass_length}
 use Rattle.arith.proofs.Sums.{sum_cong, sum_split, sum_zero}
 use Rattle.passes.specs.Passes.{prefix, running}
 use Rattle.arrival.specs.Rectangles.{ZeroPadded, RunningSums}
@@ -43,9 +37,9 @@ module _ (width : ℕ) (line : List ℕ) (padded : ZeroPadded width line) where
       ap (λ s. s % 4294967296) (omega arith)
 
   -- the line with the part come back
-  module _ (ys : List ℕ) (is : ys ≡ tab (width + 16) (running lent) ++ drop (width + 16) lent) where
+  module _ (ys : List ℕ) (is : ys ≡ tab (length lent) (running lent)) where
     few : length ys ≡ width + 16
-    few = ap length is ∙ pass_length (width + 16) (running lent) lent (let l = lent-long in omega arith) ∙ lent-long
+    few = ap length is ∙ length-tab (length lent) _ ∙ lent-long
 
     abbrev came : List ℕ
     came = put_mid 32 (32 + (width + 16) - 32) line ys
@@ -62,7 +56,7 @@ module _ (width : ℕ) (line : List ℕ) (padded : ZeroPadded width line) where
             let e : i ≡ 32 + (i - 32) = omega arith in
             let k : i - 32 < width + 16 = omega arith in
             ap (λ m. get_or came m 0) e ∙ back_in 32 (width + 16) line ys few room (i - 32) k ∙ ap (λ xs. get_or xs (i - 32) 0) is
-            ∙ pass_done (width + 16) (running lent) lent (i - 32) 0 k ∙ lit (i - 32) k ∙ ap (running line) (sym e)
+            ∙ get_or-tab (length lent) (running lent) (i - 32) 0 (let n = lent-long in omega arith) ∙ lit (i - 32) k ∙ ap (running line) (sym e)
 
     summed : RunningSums width line came
     summed =

@@ -1,11 +1,7 @@
 -- `arrival::sum_most` is the product of the definition, at most 31 · 4,095 by what it asks.
 -- Assumes nothing.
+use Rattle.std.proofs.Common.{pow_mono, ◌≡◌, mul-le-mul, arith, ◌-◌, ◌*◌, ◌^◌, ◌≤◌}
 use Rattle.arrival.specs.Rectangles.{sum_limit}
-use lib.Pow.{pow_mono}
-use mathlib.Core.Path.{◌≡◌}
-use native.Mathlib.Nat.{mul-le-mul}
-use native.Mathlib.Omega.{arith}
-use Prim.Native.Nat.{◌-◌, ◌*◌, ◌^◌, ◌≤◌}
 use Rattle.arrival.proofs.rectangles.sum_most.Goals as goal
 
 pub returns-clause-upper_bound : goal.returns-clause-upper_bound

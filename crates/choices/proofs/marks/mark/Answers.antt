@@ -1,24 +1,25 @@
--- `choices::marks::mark`: the stores hold the ratings of the choices, and the marks follow from them.
--- Assumes nothing.
-use native.Mathlib.Omega.{arith}
-use Rattle.choices.proofs.Stored.{count_most, marks_are}
-use borrow.Author.Rules.{rules}
+use Rattle.std.proofs.Common.{◌≡◌, ◌∙◌, ap, ap₂, ◌++◌, arith, ℕ, Option, None, length, drop, replicate}
+use Rattle.std.proofs.lemmas.List.{length-take-le, length-replicate}
+use Rattle.arith.specs.Tab.{tab}
+use Rattle.arith.proofs.Tabs.{length-tab}
+use Rattle.figures.specs.declared.Figures.{Figures}
+use Rattle.figures.specs.Measured.{figures_of}
+use Rattle.choices.specs.Choices.{with_drops, unbeaten}
+use Rattle.choices.specs.Stores.{stored}
+use Rattle.choices.proofs.Stored.{marks_are}
 use Rattle.choices.proofs.marks.mark.Goals as goal
-
-pub rate-requires : goal.rate-requires
-rate-requires c = let e = c.choice_count-n.ensures in
-    let m = count_most c.args.t in
-    (omega arith, omega arith, omega arith, omega arith)
-
-pub mark_each-requires : goal.mark_each-requires
-mark_each-requires c = let e = c.choice_count-n.ensures in
-    let m = count_most c.args.t in
-    let k = c.rate.auto in
-    (search rules, search rules, search rules, search rules)
 
 pub returns-clause-marks_after : goal.returns-clause-marks_after
 returns-clause-marks_after c =
-    let e = c.choice_count-n.ensures in
-    let a = c.args in
-    let r = c.rate.ensures in
-    marks_are a.t a.width _ _ _ _ r.sums_after r.below_after r.above_after e a.marks.now c.mark_each.ensures
+    let t = c.args.t.now in
+    let n = c.choice_count-n.result in
+    let v = c.choice_count-n.ensures.value in
+    let b = c.choice_count-n.ensures.upper_bound in
+    let f : ℕ → Option Figures = λ i. figures_of (with_drops t i) c.args.width in
+    let figures = c.rate.new.figures in
+    let s = length-replicate {A = Option Figures} 972 None in
+    let r : figures ≡ tab n f = c.rate.ensures ∙ ap (λ m. tab m f) (length-take-le n (replicate 972 None) (omega arith)) in
+    let m : length figures ≡ n = ap length r ∙ length-tab n f in
+    let o = length-take-le n c.args.marks.now (let h = c.told-marks in omega arith) in
+    let e = c.mark_each.ensures ∙ ap₂ (λ j k. tab j (unbeaten k (stored figures))) o m in
+    ap₂ ◌++◌ (e ∙ marks_are t c.args.width n r v) (ap (λ k. drop k c.args.marks.now) v)

@@ -1,13 +1,8 @@
--- `choices::ratings::rate`: a pass over three stores at once; what is put is of the choice's figures.
--- Assumes nothing.
-use Prim.Native.Nat.{◌-◌, ◌≤◌}
-use Rattle.arith.proofs.Passes.{Pass}
-use Rattle.choices.specs.Choices.{rating}
+use Rattle.std.proofs.Common.{◌≡◌, ℕ, ◌<◌, get_or, None}
+use Rattle.figures.specs.Measured.{figures_of}
+use Rattle.choices.specs.Choices.{with_drops}
 use Rattle.choices.proofs.ratings.rate.Given as goal
 
+-- the choices passed
 abbrev pub invariant-loop-i : goal.invariant-loop-i
-invariant-loop-i l = (l.n ≤ 972) × Pass l.n (λ i. (rating l.t l.width i).sums) l.initial.sums l.i l.sums × Pass l.n (λ i. (rating l.t l.width i).below) l.initial.below l.i l.below
-    × Pass l.n (λ i. (rating l.t l.width i).above) l.initial.above l.i l.above
-
-abbrev pub decreases-loop-i : goal.decreases-loop-i
-decreases-loop-i l = l.n - l.i
+invariant-loop-i l = (k : ℕ) → k < l.i → get_or l.figures k None ≡ figures_of (with_drops l.fn.t k) l.fn.width

@@ -1,8 +1,6 @@
 -- `figures::losses::ceil_shift`: 2^t - 1 more, shifted.
 -- Assumes nothing.
-use native.Mathlib.Omega.{arith}
-use mathlib.Core.Path.{◌≡◌, ap}
-use Prim.Native.Nat.{◌+◌, ◌-◌, ◌/◌, ◌^◌}
+use Rattle.std.proofs.Common.{arith, ◌≡◌, ap, ◌+◌, ◌-◌, ◌/◌, ◌^◌}
 use Rattle.figures.specs.Measured.{ceil_div}
 use Rattle.figures.proofs.losses.ceil_shift.Goals as goal
 

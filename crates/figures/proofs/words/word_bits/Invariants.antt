@@ -1,8 +1,4 @@
--- `figures::words::word_bits`: the widest words and the sum over the rectangles passed are carried; a word has at most 32 bits as a number, so that
--- nothing overflows.
--- Assumes nothing.
-use mathlib.Core.Path.{◌≡◌}
-use Prim.Native.Nat.{ℕ, ◌+◌, ◌-◌, ◌*◌, ◌≤◌}
+use Rattle.std.proofs.Common.{◌≡◌, ℕ, ◌+◌, ◌*◌, ◌≤◌}
 use Rattle.arith.specs.Sum.{sum}
 use Rattle.arith.specs.Largest.{largest}
 use Rattle.layout.specs.declared.Table.{Table}
@@ -20,8 +16,11 @@ win t k = window_word t (rect t k)
 abbrev pub words_most : ℕ
 words_most = 8796093022208
 
-abbrev pub invariant-loop-k : goal.invariant-loop-k
-invariant-loop-k l = (l.k ≤ l.n) × (l.column ≡ largest l.k (col l.t)) × (l.window ≡ largest l.k (win l.t)) × (l.sums ≡ sum l.k (λ j. l.width * col l.t j + win l.t j)) × (l.sums ≤ l.k * words_most)
-
-abbrev pub decreases-loop-k : goal.decreases-loop-k
-decreases-loop-k l = l.n - l.k
+-- the words of the rectangles passed
+abbrev pub invariant-loop-r : goal.invariant-loop-r
+invariant-loop-r l = record {
+  column : l.words.column ≡ largest l.r-index (col l.fn.t);
+  window : l.words.window ≡ largest l.r-index (win l.fn.t);
+  sums : l.words.sums ≡ sum l.r-index (λ j. l.fn.width * col l.fn.t j + win l.fn.t j);
+  small : l.words.sums ≤ l.r-index * words_most;
+}

@@ -1,43 +1,31 @@
--- Half ahead and the others behind, as signed bytes.
--- Assumes nothing.
-use Prim.Native.Nat.{ℕ, zero, suc, ◌+◌, ◌-◌, ◌/◌, ◌≤◌, ◌<◌}
-use native.Mathlib.Omega.{arith}
-use mathlib.Core.Path.{◌≡◌, refl, ap, ◌∙◌}
-use mir.Facts.{to_z-of_z}
-use mir.Syntax.{w8}
-use lib.IntN.{pos, negsuc, neg_ℤ}
-use borrow.Author.Tests.{le-leb, lt-leb, lt-ltb, le-ltb}
-use Rattle.arith.specs.Twos.{signed}
+-- Half ahead and the others behind.
+use Rattle.std.proofs.Common.{◌≡◌, ℕ, zero, suc, ◌-◌, ◌/◌, ◌<◌, ◌≤◌, pos, ◌-ℤ◌, sym, refl, ◌∙◌, arith, to_z, of_z, w8, to_z-of_z, neg_ℤ, lt-ltb}
+use Rattle.std.proofs.lemmas.Int.{ints}
+use Rattle.std.proofs.lemmas.Bool.Decides.{nat_tests}
+use mir.Val.{SFits}
 use Rattle.filtering.specs.Window.{centred_of}
 use Rattle.filtering.proofs.window.centred.Goals as goal
 
-ahead : (k : ℕ) → k < 128 → signed 8 k ≡ pos k
-unfolding signed
-ahead k h = rw (lt-ltb k 128 h) refl
+ahead : (k : ℕ) → k < 128 → to_z w8 k ≡ pos k
+ahead k h = rw (lt-ltb k 128 h)
 
-below-zero : (m x : ℕ) → 1 ≤ m → m + x ≡ 256 → negsuc (256 - suc x) ≡ neg_ℤ (pos m)
-below-zero zero x h e = absurd (omega arith)
-below-zero (suc m) x h e = let k : 256 - suc x ≡ m = omega arith in ap negsuc k
+below : (m : ℕ) → m ≤ 127 → SFits w8 (neg_ℤ (pos m))
+below zero h = record { sfits = omega arith }
+below (suc m) h = record { sfits = omega arith }
 
-behind : (m x : ℕ) → 1 ≤ m → m ≤ 128 → m + x ≡ 256 → signed 8 x ≡ neg_ℤ (pos m)
-unfolding signed
-behind m x h k e = rw (le-ltb x 128 (omega arith)) (below-zero m x h e)
+behind : (m : ℕ) → m ≤ 127 → to_z w8 (of_z w8 (pos 0 -ℤ to_z w8 m)) ≡ neg_ℤ (pos m)
+behind m h =
+    let z : pos 0 -ℤ pos m ≡ neg_ℤ (pos m) = omega (arith, ints) in
+    rw (ahead m (omega arith), z) (to_z-of_z (below m h))
 
-pub returns-then-n-eq0 : goal.returns-then-n-eq0
+pub returns-then-not-in_reach : goal.returns-then-not-in_reach
 unfolding centred_of
-returns-then-n-eq0 c = rw (lt-leb 1 c.args.n (omega arith)) refl
-
-pub returns-then-n-gt31 : goal.returns-then-n-gt31
-unfolding centred_of
-returns-then-n-gt31 c = let n = c.args.n in rw (le-leb 1 n (omega arith), lt-leb n 31 c.if-n-gt31.true) refl
+returns-then-not-in_reach c = rw (sym c.in_reach.ensures ∙ c.if-not-in_reach.true)
 
 pub returns : goal.returns
 unfolding centred_of
-returns c = let n = c.args.n in
-    let t = c.if-n-gt31.false in
-    let z = c.if-n-eq0.false in
-    let l = to_z-of_z {w = w8} (record { sfits = c.signed_byte-lead.type_inv }) ∙ c.signed_byte-lead.ensures in
-    let r = to_z-of_z {w = w8} (record { sfits = c.signed_byte-trail.type_inv }) ∙ c.signed_byte-trail.ensures in
-    let up = ahead (n / 2) (omega arith) in
-    let down = behind (n - n / 2) (256 + n / 2 - n) (omega arith) (omega arith) (omega arith) in
-    rw (le-leb 1 n (omega arith), le-leb n 31 t, l, r, up, down) refl
+returns c =
+    let n = c.args.n in
+    let t = sym c.in_reach.ensures ∙ c.if-not-in_reach.false in
+    let most : n ≤ 31 = grind (arith, nat_tests) in
+    rw (t, ahead (n / 2) (omega arith), behind (n - n / 2) (omega arith)) refl

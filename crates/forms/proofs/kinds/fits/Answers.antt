@@ -1,19 +1,26 @@
--- The form's words and the line's side by side: what is left of the one is of what is left of the other.
+-- The form's words and the line's side by side.
 -- Assumes nothing.
-use mathlib.Core.Path.{sym, ◌∙◌}
-use native.Mathlib.Omega.{arith}
-use Rattle.forms.proofs.Fitting.{both_short, both_off, both_on, both_end}
+use Rattle.std.proofs.Common.{◌≡◌, eqb, length, sym, ◌∙◌, rules}
+use Rattle.words.specs.Words.{words_of}
+use Rattle.forms.proofs.Fitting.{both_end, both_short, both_off, both_on}
 use Rattle.forms.proofs.kinds.fits.Goals as goal
 
-pub returns-then-start-end : goal.returns-then-start-end
-returns-then-start-end c = both_short c.loop-mark.invariant (omega arith) c.if-start-end.true
-
 pub returns-then-not-word_fits : goal.returns-then-not-word_fits
-returns-then-not-word_fits c = both_off c.loop-mark.invariant (omega arith) c.if-start-end.false (sym c.word_fits.ensures ∙ c.if-not-word_fits.true)
+returns-then-not-word_fits c =
+    both_off _ _ _ c.loop-mark.invariant _ _ c.in-Some.ensures.steps _ _ c.in-Some-next.ensures.steps (sym c.word_fits.ensures
+    ∙ c.if-not-word_fits.true)
+
+pub returns-in_default : goal.returns-in_default
+returns-in_default c =
+    let none = rw c.in_default.is at c.next-in-loop-mark.ensures.steps in
+    both_short _ _ _ c.loop-mark.invariant _ _ c.in-Some.ensures.steps none.0
 
 pub loop-mark-preserved : goal.loop-mark-preserved
-loop-mark-preserved c = both_on c.loop-mark.invariant (omega arith) c.if-start-end.false (sym c.word_fits.ensures ∙ c.if-not-word_fits.false)
-    c.next_word-mark-in-loop-mark.ensures c.next_word-found-in-loop-mark.ensures
+loop-mark-preserved c =
+    both_on _ _ _ c.loop-mark.invariant _ _ c.in-Some.ensures.steps _ _ c.in-Some-next.ensures.steps (sym c.word_fits.ensures
+    ∙ c.if-not-word_fits.false)
 
 pub returns : goal.returns
-returns c = both_end c.loop-mark.invariant (omega arith)
+returns c =
+    let h : c.is_none.result ≡ eqb (length (words_of c.loop-mark.words.0.now)) 0 = search rules in
+    h ∙ both_end _ _ _ c.loop-mark.invariant c.in-None.ensures.steps.0

@@ -1,12 +1,9 @@
--- The form's words and the line's side by side: what is left of the one is of what is left of the other.
+-- What is left of the line is of what is left of the form exactly when the line is of the form.
 -- Assumes nothing.
-use Prim.Native.Nat.{◌-◌}
-use lib.ListN.{length}
-use Rattle.forms.proofs.Fitting.{Both}
+use Rattle.std.proofs.Common.{◌≡◌}
+use Rattle.words.specs.Words.{words_of}
+use Rattle.forms.specs.Forms.{fits}
 use Rattle.forms.proofs.kinds.fits.Given as goal
 
 abbrev pub invariant-loop-mark : goal.invariant-loop-mark
-invariant-loop-mark l = Both l.form l.line l.mark.start l.mark.end l.found.start l.found.end
-
-abbrev pub decreases-loop-mark : goal.decreases-loop-mark
-decreases-loop-mark l = length l.form - l.mark.start
+invariant-loop-mark l = fits (words_of l.mark-iterator.0.now) (words_of l.words.0.now) ≡ fits (words_of l.form) (words_of l.line)

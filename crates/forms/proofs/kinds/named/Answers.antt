@@ -1,61 +1,57 @@
--- The names one after the other, in the definition's order.
+-- One name after the other.
 -- Assumes nothing.
-use mathlib.Core.Path.{◌≡◌, refl, sym, ◌∙◌}
-use mathlib.Core.Bool.{Bool, true, false}
+use Rattle.std.proofs.Common.{refl}
 use Rattle.text.specs.Ascii.{ascii}
+use Rattle.words.proofs.Alike.{alike}
 use Rattle.forms.specs.Forms.{names, place_in}
 use Rattle.forms.proofs.kinds.named.Goals as goal
 
-yes-is : {g t : Bool} → g ≡ t → g ≡ true → t ≡ true
-yes-is e h = sym e ∙ h
-
-no-is : {g t : Bool} → g ≡ t → g ≡ false → t ≡ false
-no-is e h = sym e ∙ h
-
-pub returns-then-same : goal.returns-then-same
+pub returns-then-eq : goal.returns-then-eq
 unfolding ascii names place_in
-returns-then-same c = rw (yes-is c.same.ensures c.if-same.true) refl
+returns-then-eq c = rw (
+    alike _ _ _ c.eq.ensures c.as_slice.ensures c.if-eq.true
+    ) refl
 
-pub returns-then-same-2 : goal.returns-then-same-2
+pub returns-then-eq-2 : goal.returns-then-eq-2
 unfolding ascii names place_in
-returns-then-same-2 c = rw (
-  no-is c.same.ensures c.if-same.false,
-  yes-is c.same-2.ensures c.if-same-2.true,
+returns-then-eq-2 c = rw (
+  alike _ _ _ c.eq.ensures c.as_slice.ensures c.if-eq.false,
+  alike _ _ _ c.eq-else-eq.ensures c.as_slice-else-eq.ensures c.if-eq-2.true,
 ) refl
 
-pub returns-then-same-3 : goal.returns-then-same-3
+pub returns-then-eq-3 : goal.returns-then-eq-3
 unfolding ascii names place_in
-returns-then-same-3 c = rw (
-  no-is c.same.ensures c.if-same.false,
-  no-is c.same-2.ensures c.if-same-2.false,
-  yes-is c.same-3.ensures c.if-same-3.true,
+returns-then-eq-3 c = rw (
+  alike _ _ _ c.eq.ensures c.as_slice.ensures c.if-eq.false,
+  alike _ _ _ c.eq-else-eq.ensures c.as_slice-else-eq.ensures c.if-eq-2.false,
+  alike _ _ _ c.eq-else-eq-2.ensures c.as_slice-else-eq-2.ensures c.if-eq-3.true,
 ) refl
 
-pub returns-then-same-4 : goal.returns-then-same-4
+pub returns-then-eq-4 : goal.returns-then-eq-4
 unfolding ascii names place_in
-returns-then-same-4 c = rw (
-  no-is c.same.ensures c.if-same.false,
-  no-is c.same-2.ensures c.if-same-2.false,
-  no-is c.same-3.ensures c.if-same-3.false,
-  yes-is c.same-4.ensures c.if-same-4.true,
+returns-then-eq-4 c = rw (
+  alike _ _ _ c.eq.ensures c.as_slice.ensures c.if-eq.false,
+  alike _ _ _ c.eq-else-eq.ensures c.as_slice-else-eq.ensures c.if-eq-2.false,
+  alike _ _ _ c.eq-else-eq-2.ensures c.as_slice-else-eq-2.ensures c.if-eq-3.false,
+  alike _ _ _ c.eq-else-eq-3.ensures c.as_slice-else-eq-3.ensures c.if-eq-4.true,
 ) refl
 
-pub returns-then-same-5 : goal.returns-then-same-5
+pub returns-then-eq-5 : goal.returns-then-eq-5
 unfolding ascii names place_in
-returns-then-same-5 c = rw (
-  no-is c.same.ensures c.if-same.false,
-  no-is c.same-2.ensures c.if-same-2.false,
-  no-is c.same-3.ensures c.if-same-3.false,
-  no-is c.same-4.ensures c.if-same-4.false,
-  yes-is c.same-5.ensures c.if-same-5.true,
+returns-then-eq-5 c = rw (
+  alike _ _ _ c.eq.ensures c.as_slice.ensures c.if-eq.false,
+  alike _ _ _ c.eq-else-eq.ensures c.as_slice-else-eq.ensures c.if-eq-2.false,
+  alike _ _ _ c.eq-else-eq-2.ensures c.as_slice-else-eq-2.ensures c.if-eq-3.false,
+  alike _ _ _ c.eq-else-eq-3.ensures c.as_slice-else-eq-3.ensures c.if-eq-4.false,
+  alike _ _ _ c.eq-else-eq-4.ensures c.as_slice-else-eq-4.ensures c.if-eq-5.true,
 ) refl
 
-pub returns-else-same-5 : goal.returns-else-same-5
+pub returns-else-eq-5 : goal.returns-else-eq-5
 unfolding ascii names place_in
-returns-else-same-5 c = rw (
-  no-is c.same.ensures c.if-same.false,
-  no-is c.same-2.ensures c.if-same-2.false,
-  no-is c.same-3.ensures c.if-same-3.false,
-  no-is c.same-4.ensures c.if-same-4.false,
-  no-is c.same-5.ensures c.if-same-5.false,
+returns-else-eq-5 c = rw (
+  alike _ _ _ c.eq.ensures c.as_slice.ensures c.if-eq.false,
+  alike _ _ _ c.eq-else-eq.ensures c.as_slice-else-eq.ensures c.if-eq-2.false,
+  alike _ _ _ c.eq-else-eq-2.ensures c.as_slice-else-eq-2.ensures c.if-eq-3.false,
+  alike _ _ _ c.eq-else-eq-3.ensures c.as_slice-else-eq-3.ensures c.if-eq-4.false,
+  alike _ _ _ c.eq-else-eq-4.ensures c.as_slice-else-eq-4.ensures c.if-eq-5.false,
 ) refl

@@ -1,25 +1,22 @@
 -- By the form's word: a number, an integer, or the word itself.
 -- Assumes nothing.
-use mathlib.Core.Path.{◌≡◌, sym, ◌∙◌}
-use mathlib.Core.Bool.{Bool, true, false}
+use Rattle.std.proofs.Common.{◌∙◌}
 use Rattle.text.specs.Ascii.{ascii}
+use Rattle.words.proofs.Alike.{alike, same_is}
 use Rattle.forms.specs.Forms.{word_fits}
 use Rattle.forms.proofs.kinds.word_fits.Goals as goal
 
-yes-is : {g t : Bool} → g ≡ t → g ≡ true → t ≡ true
-yes-is e h = sym e ∙ h
-
-no-is : {g t : Bool} → g ≡ t → g ≡ false → t ≡ false
-no-is e h = sym e ∙ h
-
-pub returns-then-same : goal.returns-then-same
+pub returns-then-eq : goal.returns-then-eq
 unfolding ascii word_fits
-returns-then-same c = rw (yes-is c.same.ensures c.if-same.true) c.is_number.ensures
+returns-then-eq c = rw (alike _ _ _ c.eq.ensures c.as_slice.ensures c.if-eq.true) c.is_number.ensures
 
-pub returns-then-same-2 : goal.returns-then-same-2
+pub returns-then-eq-2 : goal.returns-then-eq-2
 unfolding ascii word_fits
-returns-then-same-2 c = rw (no-is c.same.ensures c.if-same.false, yes-is c.same-2.ensures c.if-same-2.true) c.is_integer.ensures
+returns-then-eq-2 c =
+    rw (alike _ _ _ c.eq.ensures c.as_slice.ensures c.if-eq.false, alike _ _ _ c.eq-else-eq.ensures c.as_slice-else-eq.ensures c.if-eq-2.true) c.is_integer.ensures
 
-pub returns : goal.returns
+pub returns-else-eq-2 : goal.returns-else-eq-2
 unfolding ascii word_fits
-returns c = rw (no-is c.same.ensures c.if-same.false, no-is c.same-2.ensures c.if-same-2.false) c.same-3.ensures
+returns-else-eq-2 c =
+    rw (alike _ _ _ c.eq.ensures c.as_slice.ensures c.if-eq.false, alike _ _ _ c.eq-else-eq.ensures c.as_slice-else-eq.ensures c.if-eq-2.false)
+    (c.eq-else-eq-2.ensures ∙ same_is _ _)

@@ -1,18 +1,31 @@
--- `grid::covered`: an offset is covered by the two tests of the definition, on edges raised by 128.
--- Assumes nothing.
-use mathlib.Core.Path.{refl}
-use mir.Facts.{to_z-of_z}
-use borrow.Author.Tests.{lt-ltb, le-ltb}
-use Rattle.grid.specs.Grid.{covers}
-use Rattle.grid.proofs.Offsets.{above_raised, covers_raised}
+use Rattle.std.proofs.Common.{◌≡◌, ◌∙◌, refl, true, false, rules, arith, ℕ, ◌<◌, ◌-ℤ◌, pos, FitsSigned, w8, w32, to_z, of_z, to_z-of_z}
+use Rattle.std.specs.Int.Signed.{lt_z}
+use Rattle.std.proofs.Math.Facts.{to_z_pos}
+use Rattle.std.proofs.lemmas.Int.{ints}
+use Rattle.grid.specs.Grid.{covers, offset}
 use Rattle.grid.proofs.covering.covered.Goals as goal
 
-pub returns-then-biased_byte-at : goal.returns-then-biased_byte-at
-returns-then-biased_byte-at c = let t = rw (to_z-of_z c.ranges.trail) at c.biased_byte.ensures.diff in
-    let l = rw (to_z-of_z c.ranges.lead) at c.biased_byte-then-biased_byte-at.ensures.diff in
-    rw (covers_raised l t c.args.a, lt-ltb _ _ c.if-biased_byte-at.true) refl
+-- the offset of line a, and an edge, as 32 bits hold them
+offset_is : (a : ℕ) → a < 31 → to_z w32 (of_z w32 (to_z w32 a -ℤ pos 15)) ≡ offset a
+offset_is a h =
+    let p : to_z w32 a ≡ pos a = to_z_pos w32 (omega arith) in
+    let e : (pos a -ℤ pos 15) ≡ offset a = omega (arith, ints) in
+    rw (p, e) (to_z-of_z {w = w32} (grind (arith, ints)))
 
-pub returns-else-biased_byte-at : goal.returns-else-biased_byte-at
+pub returns-then-from-offset : goal.returns-then-from-offset
 unfolding covers
-returns-else-biased_byte-at c = let t = rw (to_z-of_z c.ranges.trail) at c.biased_byte.ensures.diff in
-    rw (above_raised t c.args.a, le-ltb _ _ c.if-biased_byte-at.false) refl
+returns-then-from-offset c = let o = offset_is c.args.a c.requires in
+    let t = c.from.ensures ∙ to_z-of_z {w = w8} c.ranges.trail in
+    let l = c.from-then-from-offset.ensures ∙ to_z-of_z {w = w8} c.ranges.lead in
+    let f : FitsSigned w32 c.from.result = search rules in
+    let g : FitsSigned w32 c.from-then-from-offset.result = search rules in
+    let test : lt_z c.args.trail (offset c.args.a) ≡ true = rw (to_z-of_z {w = w32} f, t, o) at c.if-from-offset.true in
+    rw (to_z-of_z {w = w32} g, l, o, test) refl
+
+pub returns-else-from-offset : goal.returns-else-from-offset
+unfolding covers
+returns-else-from-offset c = let o = offset_is c.args.a c.requires in
+    let t = c.from.ensures ∙ to_z-of_z {w = w8} c.ranges.trail in
+    let f : FitsSigned w32 c.from.result = search rules in
+    let test : lt_z c.args.trail (offset c.args.a) ≡ false = rw (to_z-of_z {w = w32} f, t, o) at c.if-from-offset.false in
+    rw (to_z-of_z {w = w32} f, t, o, test) refl

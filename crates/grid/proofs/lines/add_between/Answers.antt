@@ -1,8 +1,6 @@
 -- `grid::add_between`: the first of the two differences gains the weight and the second loses it.
 -- Assumes nothing.
-use Prim.Native.Nat.{ℕ, ◌+◌, ◌-◌}
-use native.Mathlib.Omega.{arith}
-use lib.ListN.{get_or}
+use Rattle.std.proofs.Common.{ℕ, ◌+◌, ◌-◌, arith, get_or}
 use Rattle.grid.proofs.Deltas.{end_kept, raised}
 use Rattle.grid.proofs.lines.add_between.Goals as goal
 

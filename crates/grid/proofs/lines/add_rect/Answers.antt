@@ -1,14 +1,10 @@
 -- `grid::add_rect`: a rectangle that covers the line adds its weight between the places of its two column edges; any other changes nothing.
 -- Assumes nothing.
-use native.Mathlib.Omega.{arith}
+use Rattle.std.proofs.Common.{arith, to_z-of_z, rules, not, ap}
 use mir.Val.{SFits}
 use mir.Syntax.{w8, w16}
-use mir.Facts.{to_z-of_z}
-use borrow.Author.Rules.{rules}
 use Rattle.arith.proofs.Bools.{yes, no}
 use Rattle.grid.proofs.Deltas.{added, other_line, no_column}
-use mathlib.Core.Bool.{not}
-use mathlib.Core.Path.{ap}
 use Rattle.grid.proofs.lines.add_rect.Goals as goal
 
 pub returns-then-not-covered : goal.returns-then-not-covered

@@ -1,15 +1,14 @@
--- `grid::entry_sums`: each entry is the one before it and a difference; the invariant is the entry and the two sums so far.
--- Assumes nothing.
-use Prim.Native.Nat.{suc, ◌+◌, ◌-◌, ◌*◌, ◌≤◌}
-use mathlib.Core.Path.{◌≡◌}
-use lib.ListN.{get_or}
+use Rattle.std.proofs.Common.{◌≡◌, ◌≤◌, ◌+◌, ◌-◌, ◌*◌, suc, get_or}
 use Rattle.arith.specs.Sum.{sum}
 use Rattle.grid.specs.Lines.{delta_bias, entry_most, up_to}
 use Rattle.grid.proofs.lines.entry_sums.Given as goal
 
-abbrev pub invariant-loop-b : goal.invariant-loop-b
-invariant-loop-b l = (l.b ≤ 31) × (l.entry + l.b * delta_bias ≡ sum l.b (λ j. get_or l.deltas j 0) + delta_bias) × (l.high ≡ sum l.b (λ j. up_to l.deltas j - suc j * delta_bias))
-    × (l.low ≡ sum l.b (λ j. suc j * delta_bias - up_to l.deltas j)) × (l.high ≤ l.b * entry_most) × (l.low ≤ l.b * entry_most)
-
-abbrev pub decreases-loop-b : goal.decreases-loop-b
-decreases-loop-b l = 31 - l.b
+-- the entry, and the two sums so far
+abbrev pub invariant-loop-delta : goal.invariant-loop-delta
+invariant-loop-delta l = record {
+  entry : l.entry + l.delta-index * delta_bias ≡ sum l.delta-index (λ j. get_or l.fn.deltas j 0) + delta_bias;
+  high : l.high ≡ sum l.delta-index (λ j. up_to l.fn.deltas j - suc j * delta_bias);
+  low : l.low ≡ sum l.delta-index (λ j. suc j * delta_bias - up_to l.fn.deltas j);
+  high_small : l.high ≤ l.delta-index * entry_most;
+  low_small : l.low ≤ l.delta-index * entry_most;
+}

@@ -3,7 +3,7 @@
 -- Assumes nothing.
 use Prim.Native.Nat.{ℕ, ◌^◌, ◌≤◌, ◌<◌}
 use mathlib.Core.Path.{◌≡◌, refl, sym, ap, ◌∙◌, subst}
-use mathlib.Core.Bool.{true, false, not}
+use mathlib.Core.Bool.{Bool, true, false, not}
 use mathlib.Core.List.{List, ◌++◌}
 use lib.Dec.{T}
 use lib.IntN.{ℤ, pos}
@@ -12,7 +12,13 @@ use borrow.Author.Tests.{lt-ltb, le-ltb}
 use Rattle.arith.specs.All.{all}
 use Rattle.arith.specs.Tab.{tab, zeroed}
 use Rattle.arith.proofs.Passes.{pass_length, pass_done, pass_again}
-use Rattle.layout.specs.declared.Verdict.{Verdict}
+use Rattle.std.specs.Prelude.{Result, Ok, Err}
+use Rattle.std.proofs.Common.{is_ok, rules}
+use Rattle.layout.specs.declared.asking.Question.TheVariants.{Carried}
+use Rattle.layout.specs.declared.asking.Refusal.{Refusal}
+use Rattle.layout.specs.Answers.{Said, said}
+use Rattle.layout.specs.Questions.{asked, no}
+use Rattle.limits.proofs.Asked.{asked_yes}
 use Rattle.levels.specs.Levels.{ranked}
 use Rattle.histograms.specs.Windows.{window_count}
 use Rattle.histograms.specs.Arrivals.{Counting, counting, delay_by, good_at, arrival_asks, samples_after, shade_at, output_after, leaves, arrive_of}
@@ -20,12 +26,12 @@ use Rattle.histograms.proofs.Zero.{zeros_all}
 use Rattle.histograms.proofs.Counts.{counts_small}
 use Rattle.histograms.proofs.arriving.arrive.Goals as goal
 
-same-leaves : {v : Verdict} {samples samples' counts counts' windows windows' : List ℕ} {out out' : List ℤ} → samples ≡ samples' → counts ≡ counts' → windows ≡ windows' → out ≡ out'
+same-leaves : {v : Said} {samples samples' counts counts' windows windows' : List ℕ} {out out' : List ℤ} → samples ≡ samples' → counts ≡ counts' → windows ≡ windows' → out ≡ out'
     → leaves v samples counts windows out ≡ leaves v samples' counts' windows' out'
 same-leaves e f g h = rw (e, f, g, h) refl
 
-pub count_row-requires : goal.count_row-requires
-count_row-requires c = let p = c.requires in
+pub count_row-good-requires : goal.count_row-good-requires
+count_row-good-requires c = let p = c.requires in
     record {
       rect = p.rect;
       bits_most = p.bits_most;
@@ -37,23 +43,34 @@ count_row-requires c = let p = c.requires in
       dark = zeros_all 1024;
     }
 
-pub returns-then-not-count_row : goal.returns-then-not-count_row
+abbrev refusal_of : Result (Unit {0}) Refusal → Refusal
+refusal_of (Ok x) = no Carried 0
+refusal_of (Err r) = r
+
+-- a call that asks one question and gets a no
+asked_no : (b : Bool) {r : Refusal} → asked Carried b ≡ Err r → (b ≡ false) × (r ≡ no Carried 0)
+asked_no true e = absurd (subst T (ap is_ok e) tt)
+asked_no false e = (refl, sym (ap refusal_of e))
+
+pub returns-in_err-unless : goal.returns-in_err-unless
 unfolding arrive_of arrival_asks
-returns-then-not-count_row c =
+returns-in_err-unless c =
     let arrived : Counting = let z = c.args in counting z.a z.row.now z.samples.now z.counts.now in
     let v = arrived in
-    let n = c.if-not-count_row.true in
-    let e : all v.what.width (good_at v) ≡ false = sym c.count_row.ensures.answer ∙ n in
-    rw (e, c.count_row.ensures.kept (subst (λ b. T (not b)) (sym n) tt)) refl
+    let n = asked_no _ (sym c.unless.ensures ∙ c.in_err-unless.was) in
+    let e : all v.what.width (good_at v) ≡ false = sym c.count_row-good.ensures.answer ∙ n.0 in
+    let k = c.count_row-good.ensures.kept (subst (λ b. T (not b)) (sym n.0) tt) in
+    let h : leaves (said (Err c.in_err-unless.field-0.0)) c.args.samples.now c.count_row-good.new.counts c.args.windows.now c.args.out.now ≡ arrive_of v c.args.windows.now c.args.out.now = rw (n.1, e, k) refl in
+    search (rules, h)
 
 pub show_row-requires : goal.show_row-requires
 show_row-requires c =
     let arrived : Counting = let z = c.args in counting z.a z.row.now z.samples.now z.counts.now in
-    let zeroed-once : c.zero_samples.new.to ≡ zeroed 256 c.args.windows.now = c.zero_samples.ensures in
-    let good : T c.count_row.result = subst T (sym (c.if-not-count_row.false)) tt in
+    let zeroed-once : c.clear.new.windows ≡ zeroed 256 c.args.windows.now = c.clear.ensures in
+    let good : T c.count_row-good.result = subst T (sym (asked_yes _ _ _ (sym c.unless.ensures ∙ c.in_ok-unless.was))) tt in
     let p = c.requires in
     let v = arrived in
-    let q = c.count_row.ensures in
+    let q = c.count_row-good.ensures in
     let w = zeroed-once in
     record {
       rect = p.rect;
@@ -71,13 +88,13 @@ show_row-requires c =
 pub returns-then-delay-a : goal.returns-then-delay-a
 unfolding arrive_of arrival_asks output_after shade_at samples_after
 returns-then-delay-a c =
-    let good : T c.count_row.result = subst T (sym (c.if-not-count_row.false)) tt in
+    let good : T c.count_row-good.result = subst T (sym (asked_yes _ _ _ (sym c.unless.ensures ∙ c.in_ok-unless.was))) tt in
     let arrived : Counting = let z = c.args in counting z.a z.row.now z.samples.now z.counts.now in
-    let accepted : all (arrived).what.width (good_at (arrived)) ≡ true = sym c.count_row.ensures.answer ∙ c.if-not-count_row.false in
-    let kept : c.keep.new.samples ≡ samples_after (arrived) = c.keep.ensures in
-    let zeroed-once : c.zero_samples.new.to ≡ zeroed 256 c.args.windows.now = c.zero_samples.ensures in
+    let accepted : all (arrived).what.width (good_at (arrived)) ≡ true = sym c.count_row-good.ensures.answer ∙ asked_yes _ _ _ (sym c.unless.ensures ∙ c.in_ok-unless.was) in
+    let kept : c.keep.new.samples ≡ samples_after (arrived) = rw c.requires.long at c.keep.ensures in
+    let zeroed-once : c.clear.new.windows ≡ zeroed 256 c.args.windows.now = c.clear.ensures in
     let a = c.args.a in
-    let q = c.count_row.ensures.moved (good) in
+    let q = c.count_row-good.ensures.moved (good) in
     let d : delay_by a.rect ≤ a.number = rw c.delay.ensures at c.if-delay-a.true in
     rw (accepted, le-ltb a.number (delay_by a.rect) d)
     (same-leaves (kept) q (c.show_row.ensures.zero ∙ pass_again 256 (λ c. 0) (λ c. 0) c.args.windows.now (zeroed-once))
@@ -87,10 +104,10 @@ pub returns-else-delay-a : goal.returns-else-delay-a
 unfolding arrive_of arrival_asks output_after samples_after
 returns-else-delay-a c =
     let arrived : Counting = let z = c.args in counting z.a z.row.now z.samples.now z.counts.now in
-    let accepted : all (arrived).what.width (good_at (arrived)) ≡ true = sym c.count_row.ensures.answer ∙ c.if-not-count_row.false in
-    let kept : c.keep.new.samples ≡ samples_after (arrived) = c.keep.ensures in
-    let good : T c.count_row.result = subst T (sym (c.if-not-count_row.false)) tt in
-    let zeroed-once : c.zero_samples.new.to ≡ zeroed 256 c.args.windows.now = c.zero_samples.ensures in
+    let accepted : all (arrived).what.width (good_at (arrived)) ≡ true = sym c.count_row-good.ensures.answer ∙ asked_yes _ _ _ (sym c.unless.ensures ∙ c.in_ok-unless.was) in
+    let kept : c.keep.new.samples ≡ samples_after (arrived) = rw c.requires.long at c.keep.ensures in
+    let good : T c.count_row-good.result = subst T (sym (asked_yes _ _ _ (sym c.unless.ensures ∙ c.in_ok-unless.was))) tt in
+    let zeroed-once : c.clear.new.windows ≡ zeroed 256 c.args.windows.now = c.clear.ensures in
     let a = c.args.a in
     let d : a.number < delay_by a.rect = rw c.delay.ensures at c.if-delay-a.false in
-    rw (accepted, lt-ltb a.number (delay_by a.rect) d) (same-leaves (kept) (c.count_row.ensures.moved (good)) (zeroed-once) refl)
+    rw (accepted, lt-ltb a.number (delay_by a.rect) d) (same-leaves (kept) (c.count_row-good.ensures.moved (good)) (zeroed-once) refl)

@@ -6,7 +6,7 @@ use mir.Facts.{to_z-of_z}
 use mir.Syntax.{w8}
 use mir.Val.{SFits}
 use Rattle.histograms.specs.Arrivals.{Counting, counting, edge_row}
-use Rattle.histograms.specs.Edges.{EdgeOf}
+use Rattle.histograms.specs.Edges.{EdgeOf, times_of, row_of}
 use Rattle.histograms.proofs.Counts.{columns_count, counted, delay_most}
 use borrow.Author.Rules.{rules}
 use Rattle.histograms.proofs.arriving.count_row.Goals as goal
@@ -25,18 +25,18 @@ pub count_columns-requires : goal.count_columns-requires
 unfolding edge_row
 count_columns-requires c =
     let counts_of : Counting = counting c.args.a c.args.row.now c.args.samples.now c.args.counts.now in
-    let off-edge : EdgeOf c.args.a.given (edge_row c.args.a c.args.a.rect.trailrow) c.edge_of-off.result.times c.edge_of-off.result.row = let f : SFits w8 c.args.a.rect.trailrow = search rules in
+    let off-edge : EdgeOf c.args.a.given (edge_row c.args.a c.args.a.rect.trailrow) (times_of c.edge_of-off.result) (row_of c.edge_of-off.result) = let f : SFits w8 c.args.a.rect.trailrow = search rules in
     rw (c.delay-late.ensures, to_z-of_z f) at c.edge_of-off.ensures in
-    let on_edge : EdgeOf c.args.a.given (edge_row c.args.a c.args.a.rect.leadrow) c.edge_of-on.result.times c.edge_of-on.result.row = let f : SFits w8 c.args.a.rect.leadrow = search rules in
+    let on_edge : EdgeOf c.args.a.given (edge_row c.args.a c.args.a.rect.leadrow) (times_of c.edge_of-on.result) (row_of c.edge_of-on.result) = let f : SFits w8 c.args.a.rect.leadrow = search rules in
     rw (c.delay-late.ensures, to_z-of_z f) at c.edge_of-on.ensures in
-    rw (c.edge_row-leaving.ensures, c.edge_row-entering.ensures) (columns_count (counts_of) (off-edge) (on_edge) c.requires)
+    rw (c.times.ensures, c.times-2.ensures, c.edge_row-leaving.ensures, c.edge_row-entering.ensures, c.requires.long) (columns_count (counts_of) (off-edge) (on_edge) c.requires)
 
 pub returns : goal.returns
 unfolding edge_row
 returns c =
     let counts_of : Counting = counting c.args.a c.args.row.now c.args.samples.now c.args.counts.now in
-    let off-edge : EdgeOf c.args.a.given (edge_row c.args.a c.args.a.rect.trailrow) c.edge_of-off.result.times c.edge_of-off.result.row = let f : SFits w8 c.args.a.rect.trailrow = search rules in
+    let off-edge : EdgeOf c.args.a.given (edge_row c.args.a c.args.a.rect.trailrow) (times_of c.edge_of-off.result) (row_of c.edge_of-off.result) = let f : SFits w8 c.args.a.rect.trailrow = search rules in
     rw (c.delay-late.ensures, to_z-of_z f) at c.edge_of-off.ensures in
-    let on_edge : EdgeOf c.args.a.given (edge_row c.args.a c.args.a.rect.leadrow) c.edge_of-on.result.times c.edge_of-on.result.row = let f : SFits w8 c.args.a.rect.leadrow = search rules in
+    let on_edge : EdgeOf c.args.a.given (edge_row c.args.a c.args.a.rect.leadrow) (times_of c.edge_of-on.result) (row_of c.edge_of-on.result) = let f : SFits w8 c.args.a.rect.leadrow = search rules in
     rw (c.delay-late.ensures, to_z-of_z f) at c.edge_of-on.ensures in
-    counted (counts_of) (off-edge) (on_edge) (rw (c.edge_row-leaving.ensures, c.edge_row-entering.ensures) at c.count_columns.ensures)
+    counted (counts_of) (off-edge) (on_edge) (rw (c.times.ensures, c.times-2.ensures, c.edge_row-leaving.ensures, c.edge_row-entering.ensures, c.requires.long) at c.count_columns.ensures)

@@ -1,29 +1,29 @@
 -- `histograms::edge_of` tells the three cases of row arrival - delay + edge: below 0, past the rows given, or one of them.
 -- Assumes nothing.
-use mir.Facts.{to_z-of_z}
-use mir.Syntax.{w8}
-use mir.Val.{SFits}
-use Rattle.arith.specs.Diff.{Diff}
-use Rattle.histograms.proofs.Edge.{edge_below, edge_closing, edge_given}
-use borrow.Author.Rules.{rules}
+use Rattle.std.proofs.Common.{to_z-of_z, w8, w64, SFits, rules}
+use Rattle.histograms.proofs.Edge.{edge_below, row_is, edge_closing, edge_given}
 use Rattle.histograms.proofs.edges.edge_of.Goals as goal
 
-pub returns-then-arrival-reach : goal.returns-then-arrival-reach
-returns-then-arrival-reach c =
-    let raised : Diff c.args.edge c.biased_byte-reach.result 128 = let f : SFits w8 c.args.edge = search rules in
-    rw (to_z-of_z f) at c.biased_byte-reach.ensures.diff in
-    let a = c.args in edge_below a.arrival a.delay (raised) a.given c.if-arrival-reach.true
+pub returns-in_err-row : goal.returns-in_err-row
+returns-in_err-row c =
+    let f : SFits w64 c.reach.result = record { sfits = c.reach.type_inv } in
+    let g : SFits w8 c.args.edge = search rules in
+    let e = rw (to_z-of_z g) at c.reach.ensures in
+    let h = rw (to_z-of_z f) at c.try_from.ensures in
+    rw c.from_residual.ensures (rw e at (edge_below c.args.given c.reach.result c.try_from.result h f.sfits c.in_err-row.ensures.value))
 
 pub returns-then-given-row : goal.returns-then-given-row
 returns-then-given-row c =
-    let raised : Diff c.args.edge c.biased_byte-reach.result 128 = let f : SFits w8 c.args.edge = search rules in
-    rw (to_z-of_z f) at c.biased_byte-reach.ensures.diff in
-    let a = c.args in
-    edge_closing a.arrival a.delay (raised) a.given c.if-arrival-reach.false c.if-given-row.true
+    let f : SFits w64 c.reach.result = record { sfits = c.reach.type_inv } in
+    let g : SFits w8 c.args.edge = search rules in
+    let e = rw (to_z-of_z g) at c.reach.ensures in
+    let h = rw (to_z-of_z f) at c.try_from.ensures in
+    rw e at (edge_closing c.args.given c.in_ok-row.row (row_is c.args.given c.reach.result c.try_from.result h c.in_ok-row.row c.in_ok-row.ensures.value) c.if-given-row.true)
 
 pub returns : goal.returns
 returns c =
-    let raised : Diff c.args.edge c.biased_byte-reach.result 128 = let f : SFits w8 c.args.edge = search rules in
-    rw (to_z-of_z f) at c.biased_byte-reach.ensures.diff in
-    let a = c.args in
-    edge_given a.arrival a.delay (raised) a.given c.if-arrival-reach.false c.if-given-row.false
+    let f : SFits w64 c.reach.result = record { sfits = c.reach.type_inv } in
+    let g : SFits w8 c.args.edge = search rules in
+    let e = rw (to_z-of_z g) at c.reach.ensures in
+    let h = rw (to_z-of_z f) at c.try_from.ensures in
+    rw e at (edge_given c.args.given c.in_ok-row.row (row_is c.args.given c.reach.result c.try_from.result h c.in_ok-row.row c.in_ok-row.ensures.value) c.if-given-row.false)

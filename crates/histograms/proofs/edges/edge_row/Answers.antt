@@ -1,10 +1,8 @@
--- `histograms::edge_row` lends zeros for a row that does not count, and the ring's row for one that does.
+-- `histograms::edge_row` lends zeros where no row is reached, and the ring's row where one is.
 -- Assumes nothing.
-use mathlib.Core.Path.{refl}
-use borrow.Author.Tests.{eq-eqb}
+use Rattle.std.proofs.Common.{refl, length}
 use Rattle.histograms.proofs.Zero.{zeros_first}
 use Rattle.histograms.proofs.edges.edge_row.Goals as goal
 
-pub returns-then-e-eq0 : goal.returns-then-e-eq0
-returns-then-e-eq0 c = let a = c.args in
-    zeros_first c.requires.dark a.width c.requires.width_most (λ k. rw (eq-eqb a.e.times 0 c.if-e-eq0.true) refl)
+pub returns-in-None : goal.returns-in-None
+returns-in-None c = rw c.in-None.is (zeros_first c.requires.dark (length c.args.row.now) c.requires.width_most (λ k. refl))

@@ -5,4 +5,4 @@ use Rattle.levels.proofs.columns.change.Goals as goal
 
 pub returns : goal.returns
 returns c = let a = c.args in
-    changed a.col.now a.x a.less a.y a.more c.requires.off_level c.requires.on_level
+    rw (c.from-i.ensures, c.from-j.ensures) (changed a.col.now a.x a.less a.y a.more c.requires.off_level c.requires.on_level)

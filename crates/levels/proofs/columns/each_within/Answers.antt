@@ -11,13 +11,14 @@ use Rattle.levels.specs.Levels.{count_of, moved_count}
 use borrow.Author.Rules.{rules}
 use Rattle.levels.proofs.columns.each_within.Goals as goal
 
-pub returns-then-most-moved : goal.returns-then-most-moved
+pub returns-then-from-moved : goal.returns-then-from-moved
 unfolding moved_count
-returns-then-most-moved c = let a = c.args in
+returns-then-from-moved c = let a = c.args in
     let v = c.loop-v.v in
     let m = moved_count (count_of a.col.now) a.x a.less a.y a.more in
     let e = c.moved.ensures in
-    let t = c.if-most-moved.true in
+    let f = c.from.ensures in
+    let t = c.if-from-moved.true in
     sym (all_fails (length a.col.now) (λ u. leb (m u) a.most) v (search rules) (lt-leb (m v) a.most (omega arith)))
 
 pub loop-v-preserved : goal.loop-v-preserved
@@ -26,9 +27,10 @@ loop-v-preserved c = let a = c.args in
     let v = c.loop-v.v in
     let m = moved_count (count_of a.col.now) a.x a.less a.y a.more in
     let e = c.moved.ensures in
-    let t = c.if-most-moved.false in
-    (search rules, up_to {P = λ u. T (leb (m u) a.most)} v c.loop-v.invariant.1 (le→leb (m v) a.most (omega arith)))
+    let f = c.from.ensures in
+    let t = c.if-from-moved.false in
+    up_to {P = λ u. T (leb (m u) a.most)} v c.loop-v.invariant (le→leb (m v) a.most (omega arith))
 
 pub returns : goal.returns
 returns c = let a = c.args in
-    sym (true_of _ (all_of (length a.col.now) (λ u. leb (moved_count (count_of a.col.now) a.x a.less a.y a.more u) a.most) (λ u l. c.loop-v.invariant.1 u (omega arith))))
+    sym (true_of _ (all_of (length a.col.now) (λ u. leb (moved_count (count_of a.col.now) a.x a.less a.y a.more u) a.most) (λ u l. c.loop-v.invariant u (omega arith))))

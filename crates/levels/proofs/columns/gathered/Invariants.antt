@@ -1,11 +1,7 @@
 -- `levels::gathered`: a OR b is below neither a nor b, so that each count passed is at most what is gathered.
 -- Assumes nothing.
-use Prim.Native.Nat.{ℕ, ◌-◌, ◌≤◌, ◌<◌}
-use lib.ListN.{length, get_or}
+use Rattle.std.proofs.Common.{ℕ, ◌≤◌, ◌<◌, get_or}
 use Rattle.levels.proofs.columns.gathered.Given as goal
 
-abbrev pub invariant-loop-v : goal.invariant-loop-v
-invariant-loop-v l = (l.v ≤ length l.col) × ((u : ℕ) → u < l.v → get_or l.col u 0 ≤ l.g)
-
-abbrev pub decreases-loop-v : goal.decreases-loop-v
-decreases-loop-v l = length l.col - l.v
+abbrev pub invariant-loop-count : goal.invariant-loop-count
+invariant-loop-count l = (u : ℕ) → u < l.count-index → get_or l.col u 0 ≤ l.all

@@ -1,11 +1,7 @@
 -- `levels::move_columns` changes column after column; each is lent as its part of the store and comes back changed.
 -- Assumes nothing.
-use Prim.Native.Nat.{◌-◌}
 use Rattle.levels.proofs.Lines.{Columns}
 use Rattle.levels.proofs.columns.move_columns.Given as goal
 
 abbrev pub invariant-loop-c : goal.invariant-loop-c
 invariant-loop-c l = Columns l.width l.initial.counts l.off l.less l.on l.more l.c l.counts
-
-abbrev pub decreases-loop-c : goal.decreases-loop-c
-decreases-loop-c l = l.width - l.c

@@ -1,29 +1,24 @@
 -- `levels::block` adds the counts passed; sixteen of at most 4,095 fit 16 bits.
 -- Assumes nothing.
-use native.Mathlib.Numerals.{add-one}
-use native.Mathlib.Omega.{arith}
-use mathlib.Core.Path.{refl}
+use Rattle.std.proofs.Common.{refl, add-one, arith}
 use Rattle.arith.specs.Sum.{sum}
 use Rattle.arith.proofs.Sums.{sum-suc, sum_bound}
 use Rattle.levels.specs.Levels.{count_of}
-use borrow.Author.Rules.{rules}
 use Rattle.levels.proofs.finding.block.Goals as goal
 
-pub loop-i-init : goal.loop-i-init
+pub loop-count-init : goal.loop-count-init
 unfolding sum
-loop-i-init c = (search rules, refl)
+loop-count-init c = refl
 
-pub overflow_add-s : goal.overflow_add-s
-overflow_add-s c = let p = c.requires in
+pub overflow_add-sum : goal.overflow_add-sum
+overflow_add-sum c = let p = c.requires in
     let n = p.0 in
-    let t = c.loop-i-test.true in
-    let f = count_of c.args.counts.now in
-    let m = sum_bound c.loop-i.i 4095 {f = f} (λ k h. p.1 k (omega arith)) in
-    let k = p.1 c.loop-i.i (omega arith) in
-    let e = c.loop-i.invariant.1 in
+    let k = c.loop-count.count-index in
+    let m = sum_bound k 4095 {f = count_of c.args.counts.now} (λ k h. p.1 k (omega arith)) in
+    let x = p.1 k (omega arith) in
+    let e = c.loop-count.invariant in
     record { fits = omega arith }
 
-pub loop-i-preserved : goal.loop-i-preserved
-loop-i-preserved c = let i = c.loop-i.i in
-    let e = c.loop-i.invariant.1 in
-    (search rules, rw (add-one i, sum-suc i (count_of c.args.counts.now), e) refl)
+pub loop-count-preserved : goal.loop-count-preserved
+loop-count-preserved c = let k = c.loop-count.count-index in
+    rw (add-one k, sum-suc k (count_of c.args.counts.now), c.loop-count.invariant) refl

@@ -1,6 +1,7 @@
 -- `levels::level` goes on from the block in which the rank is reached: of the part from there on, the levels passed are those of the whole.
 -- Assumes nothing.
-use Prim.Native.Nat.{ℕ, ◌+◌, ◌-◌, ◌≤◌, ◌<◌}
+use Rattle.std.proofs.lemmas.Bool.{cases_lt}
+use Prim.Native.Nat.{min, ℕ, ◌+◌, ◌-◌, ◌≤◌, ◌<◌}
 use native.Mathlib.Omega.{arith}
 use mathlib.Core.Logic.{◌⊎◌, inl, inr, ⊎_elim}
 use mathlib.Core.List.{List}
@@ -16,7 +17,6 @@ use Rattle.levels.specs.Levels.{count_of, up_to, below}
 use Rattle.levels.proofs.Ranks.{all_below, passed_from, reached_within}
 use borrow.Author.Rules.{rules}
 use Rattle.levels.proofs.finding.level.Goals as goal
-use Rattle.levels.proofs.finding.level.Goals.{then-n-at-ge16, else-n-at-ge16}
 
 -- where the part ends that is looked at level by level: with a whole block in which the rank is reached, or with the levels
 record End (at end : ℕ) (counts : List ℕ) : Type 0 where
@@ -24,18 +24,17 @@ record End (at end : ℕ) (counts : List ℕ) : Type 0 where
   within : end ≤ length counts
   is : (end ≡ at + 16) ⊎ (end ≡ length counts)
 
+end_is : (at end : ℕ) (counts : List ℕ) → at ≤ length counts → end ≡ min (length counts) (at + 16) → End at end counts
+end_is at end counts h e = record { from = omega arith; within = omega arith; is = ⊎_elim (λ (p : length counts < at + 16). inr (omega arith)) (λ (p : at + 16 ≤ length counts). inl (omega arith)) (cases_lt (length counts) (at + 16)) }
+
 pub passed-requires : goal.passed-requires
 passed-requires c =
-    let ends : End c.blocks-b.result.at c.if-n-at-ge16.end c.args.counts.now = let n = c.blocks-b.ensures.passed.in_list in
-    elim c.if-n-at-ge16.branch [
-      | then-n-at-ge16 w ↦ record { from = omega arith; within = omega arith; is = inl w.end-is }
-      | else-n-at-ge16 w ↦ record { from = omega arith; within = omega arith; is = inr w.end-is }
-    ] in
+    let ends : End c.blocks-b.result.at c.min-end.result c.args.counts.now = end_is _ _ _ c.blocks-b.ensures.passed.in_list (search (rules, c.min-end.ensures)) in
     let at : ℕ = c.blocks-b.result.at in
     let counts : List ℕ = (c).args.counts.now in
-    let lent : List ℕ = take (c.if-n-at-ge16.end - at) (drop (at) (counts)) in
-    let long : length (lent) ≡ c.if-n-at-ge16.end - at = part_long (at) (c.if-n-at-ge16.end - at) (counts) (let e = ends in let f = e.from in let w = e.within in omega arith) in
-    let lent_at : (i : ℕ) → i < c.if-n-at-ge16.end - at → count_of (lent) i ≡ count_of (counts) (at + i) = λ i h. get_or-take (c.if-n-at-ge16.end - at) (drop (at) (counts)) i 0 h ∙ get_or-drop (at) (counts) i 0 in
+    let lent : List ℕ = take (c.min-end.result - at) (drop (at) (counts)) in
+    let long : length (lent) ≡ c.min-end.result - at = part_long (at) (c.min-end.result - at) (counts) (let e = ends in let f = e.from in let w = e.within in omega arith) in
+    let lent_at : (i : ℕ) → i < c.min-end.result - at → count_of (lent) i ≡ count_of (counts) (at + i) = λ i h. get_or-take (c.min-end.result - at) (drop (at) (counts)) i 0 h ∙ get_or-drop (at) (counts) i 0 in
     let p = (c).requires in
     let b = c.blocks-b.ensures.passed in
     let n = b.in_list in
@@ -56,21 +55,17 @@ pub overflow_add-result : goal.overflow_add-result
 overflow_add-result c =
     let at : ℕ = c.blocks-b.result.at in
     let counts : List ℕ = (c).args.counts.now in
-    let lent : List ℕ = take (c.if-n-at-ge16.end - at) (drop (at) (counts)) in
-    let ends : End c.blocks-b.result.at c.if-n-at-ge16.end c.args.counts.now = let n = c.blocks-b.ensures.passed.in_list in
-    elim c.if-n-at-ge16.branch [
-      | then-n-at-ge16 w ↦ record { from = omega arith; within = omega arith; is = inl w.end-is }
-      | else-n-at-ge16 w ↦ record { from = omega arith; within = omega arith; is = inr w.end-is }
-    ] in
-    let long : length (lent) ≡ c.if-n-at-ge16.end - at = part_long (at) (c.if-n-at-ge16.end - at) (counts) (let e = ends in let f = e.from in let w = e.within in omega arith) in
-    let lent_at : (i : ℕ) → i < c.if-n-at-ge16.end - at → count_of (lent) i ≡ count_of (counts) (at + i) = λ i h. get_or-take (c.if-n-at-ge16.end - at) (drop (at) (counts)) i 0 h ∙ get_or-drop (at) (counts) i 0 in
-    let passed_is : c.passed.result ≡ first_not (c.if-n-at-ge16.end - at) (λ i. below (count_of (counts)) (c).args.rank (at + i)) = let n = c.if-n-at-ge16.end - at in
+    let lent : List ℕ = take (c.min-end.result - at) (drop (at) (counts)) in
+    let ends : End c.blocks-b.result.at c.min-end.result c.args.counts.now = end_is _ _ _ c.blocks-b.ensures.passed.in_list (search (rules, c.min-end.ensures)) in
+    let long : length (lent) ≡ c.min-end.result - at = part_long (at) (c.min-end.result - at) (counts) (let e = ends in let f = e.from in let w = e.within in omega arith) in
+    let lent_at : (i : ℕ) → i < c.min-end.result - at → count_of (lent) i ≡ count_of (counts) (at + i) = λ i h. get_or-take (c.min-end.result - at) (drop (at) (counts)) i 0 h ∙ get_or-drop (at) (counts) i 0 in
+    let passed_is : c.passed.result ≡ first_not (c.min-end.result - at) (λ i. below (count_of (counts)) (c).args.rank (at + i)) = let n = c.min-end.result - at in
     let f = count_of (counts) in
     let g = count_of (lent) in
     let R = (c).args.rank in
     c.passed.ensures ∙ ap₂ (λ i s. first_not i (λ k. ltb (s + up_to g k) R)) (long) c.blocks-b.ensures.passed.is ∙ passed_from f R (at) n g (lent_at) in
     let e = passed_is in
-    let m = first_most (c.if-n-at-ge16.end - at) (λ i. below (count_of (counts)) (c).args.rank (at + i)) in
+    let m = first_most (c.min-end.result - at) (λ i. below (count_of (counts)) (c).args.rank (at + i)) in
     let f = (ends).from in
     let w = (ends).within in
     let few = (c).requires.few in
@@ -80,24 +75,20 @@ pub returns : goal.returns
 returns c =
     let at : ℕ = c.blocks-b.result.at in
     let counts : List ℕ = (c).args.counts.now in
-    let ends : End c.blocks-b.result.at c.if-n-at-ge16.end c.args.counts.now = let n = c.blocks-b.ensures.passed.in_list in
-    elim c.if-n-at-ge16.branch [
-      | then-n-at-ge16 w ↦ record { from = omega arith; within = omega arith; is = inl w.end-is }
-      | else-n-at-ge16 w ↦ record { from = omega arith; within = omega arith; is = inr w.end-is }
-    ] in
-    let lent : List ℕ = take (c.if-n-at-ge16.end - at) (drop (at) (counts)) in
-    let long : length (lent) ≡ c.if-n-at-ge16.end - at = part_long (at) (c.if-n-at-ge16.end - at) (counts) (let e = ends in let f = e.from in let w = e.within in omega arith) in
-    let lent_at : (i : ℕ) → i < c.if-n-at-ge16.end - at → count_of (lent) i ≡ count_of (counts) (at + i) = λ i h. get_or-take (c.if-n-at-ge16.end - at) (drop (at) (counts)) i 0 h ∙ get_or-drop (at) (counts) i 0 in
-    let passed_is : c.passed.result ≡ first_not (c.if-n-at-ge16.end - at) (λ i. below (count_of (counts)) (c).args.rank (at + i)) = let n = c.if-n-at-ge16.end - at in
+    let ends : End c.blocks-b.result.at c.min-end.result c.args.counts.now = end_is _ _ _ c.blocks-b.ensures.passed.in_list (search (rules, c.min-end.ensures)) in
+    let lent : List ℕ = take (c.min-end.result - at) (drop (at) (counts)) in
+    let long : length (lent) ≡ c.min-end.result - at = part_long (at) (c.min-end.result - at) (counts) (let e = ends in let f = e.from in let w = e.within in omega arith) in
+    let lent_at : (i : ℕ) → i < c.min-end.result - at → count_of (lent) i ≡ count_of (counts) (at + i) = λ i h. get_or-take (c.min-end.result - at) (drop (at) (counts)) i 0 h ∙ get_or-drop (at) (counts) i 0 in
+    let passed_is : c.passed.result ≡ first_not (c.min-end.result - at) (λ i. below (count_of (counts)) (c).args.rank (at + i)) = let n = c.min-end.result - at in
     let f = count_of (counts) in
     let g = count_of (lent) in
     let R = (c).args.rank in
     c.passed.ensures ∙ ap₂ (λ i s. first_not i (λ k. ltb (s + up_to g k) R)) (long) c.blocks-b.ensures.passed.is ∙ passed_from f R (at) n g (lent_at) in
-    let within_block : (k : ℕ) → k ≡ first_not (c.if-n-at-ge16.end - at) (λ i. below (count_of (counts)) (c).args.rank (at + i)) → c.if-n-at-ge16.end ≡ at + 16 → k < c.if-n-at-ge16.end - at = λ k e q. let n : c.if-n-at-ge16.end - at ≡ 16 = omega arith in
+    let within_block : (k : ℕ) → k ≡ first_not (c.min-end.result - at) (λ i. below (count_of (counts)) (c).args.rank (at + i)) → c.min-end.result ≡ at + 16 → k < c.min-end.result - at = λ k e q. let n : c.min-end.result - at ≡ 16 = omega arith in
     let w = (ends).within in
     let r = reached_within (count_of (counts)) (c).args.rank (at) 15 (c.blocks-b.ensures.reached (omega arith)) in
     rw n (rw (e ∙ ap (λ i. first_not i (λ i. below (count_of (counts)) (c).args.rank (at + i))) n) r) in
-    let n = c.if-n-at-ge16.end - at in
+    let n = c.min-end.result - at in
     let f = count_of (counts) in
     let R = (c).args.rank in
     let b = c.blocks-b.ensures in

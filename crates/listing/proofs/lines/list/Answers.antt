@@ -1,39 +1,5 @@
--- A file that is refused gives its number, an accepted one its table.
--- Assumes nothing.
-use mathlib.Core.Path.{◌≡◌, sym, ap, ◌∙◌}
-use mathlib.Core.List.{List}
-use Prim.Native.Nat.{ℕ}
-use borrow.Author.Rules.{rules}
-use Rattle.layout.specs.declared.Table.{Table}
-use Rattle.table.specs.Format.{refused, load_of}
-use Rattle.table.proofs.Sound.{Read, read, not_read}
-use Rattle.listing.specs.Listing.{refused_line, table_lines, listing_of}
+use Rattle.listing.proofs.Written.{lists}
 use Rattle.listing.proofs.lines.list.Goals as goal
 
-listed : (bs : List ℕ) {t : Table} → Read bs t → listing_of (load_of bs) ≡ table_lines t
-unfolding listing_of
-listed bs r = ap listing_of r.is ∙ ap table_lines (sym r.table)
-
-not_listed : (bs : List ℕ) {n p : ℕ} → load_of bs ≡ refused n p → listing_of (load_of bs) ≡ refused_line n
-unfolding listing_of
-not_listed bs e = ap listing_of e
-
-pub put_table-requires-clause-b_value : goal.put_table-requires-clause-b_value
-put_table-requires-clause-b_value c =
-    let l = c.load-loaded.ensures in
-    let r = read _ l c.in-Accepted.is in
-    (r.head.bits, r.head.drops)
-
-pub put_table-requires-clause-count_bound : goal.put_table-requires-clause-count_bound
-put_table-requires-clause-count_bound c =
-    let l = c.load-loaded.ensures in
-    let r = read _ l c.in-Accepted.is in
-    (r.few, search rules)
-
-pub returns-in-Refused : goal.returns-in-Refused
-returns-in-Refused c = let l = c.load-loaded.ensures in
-    rw (not_listed _ (not_read _ l c.in-Refused.is)) c.put_refused.ensures
-
-pub returns-in-Accepted : goal.returns-in-Accepted
-returns-in-Accepted c = let l = c.load-loaded.ensures in
-    rw (listed _ (read _ l c.in-Accepted.is)) c.put_table.ensures
+pub returns : goal.returns
+returns c = lists c.args.bytes.now c.load.result c.load.ensures

@@ -1,25 +1,20 @@
--- Line by line: what is asked of the lines from here on comes to what is asked of all.
+-- Line by line.
 -- Assumes nothing.
-use native.Mathlib.Omega.{arith}
-use Prim.Native.Nat.{◌+◌}
-use native.Mathlib.Numerals.{add-one}
-use Rattle.text.proofs.Feeds.{after_feed}
-use Rattle.words.proofs.Lines.{lines_less}
-use Rattle.making.proofs.Chains.{look_stops, look_goes, looked_all}
+use Rattle.std.proofs.Common.{◌≡◌, Err, ap, ◌∙◌, rules}
+use Rattle.forms.specs.Faults.{text_said}
+use Rattle.making.proofs.Chains.{looked_all, look_stops, look_goes}
 use Rattle.making.proofs.asked.lines.Goals as goal
 
-pub returns-in-Refused : goal.returns-in-Refused
-returns-in-Refused c = let e = c.line_end-end.ensures in
-    let end = c.line_end-end.result in
-    look_stops c.loop-at.invariant end (end + 1) (omega arith) e.value (after_feed _ _ end e.value) c.look-v.ensures c.in-Refused.is
+pub returns-in_err-look : goal.returns-in_err-look
+returns-in_err-look c =
+    let s = c.in-Some.ensures.steps in
+    let e : c.from_residual.result ≡ Err c.in_err-look.field-0.0 = search rules in
+    ap text_said e ∙ look_stops _ _ _ c.loop-line.invariant _ _ s.0 s.1 _ _ s.2 _ c.look.ensures _ c.in_err-look.was
 
-pub loop-at-smaller : goal.loop-at-smaller
-loop-at-smaller c = lines_less c.args.text.now c.loop-at.at _ (omega arith) c.next_line-at.ensures.text_value
-
-pub loop-at-preserved : goal.loop-at-preserved
-loop-at-preserved c = let e = c.line_end-end.ensures in
-    let n = c.next_line-at.ensures in
-    rw add-one (look_goes c.loop-at.invariant _ _ (omega arith) e.value n.text_value c.look-v.ensures c.in-Accepted.is (n.upper_bound c.loop-at.invariant.within))
+pub loop-line-preserved : goal.loop-line-preserved
+loop-line-preserved c =
+    let s = c.in-Some.ensures.steps in
+    look_goes _ _ _ c.loop-line.invariant _ _ s.0 s.1 _ _ s.2 _ c.look.ensures c.in_ok-look.was
 
 pub returns : goal.returns
-returns c = looked_all c.loop-at.invariant (omega arith)
+returns c = looked_all _ _ _ c.loop-line.invariant c.in-None.ensures.steps.0

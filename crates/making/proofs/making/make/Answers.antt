@@ -1,33 +1,25 @@
--- The refusal, or the table's file written.
+-- Why there is no table, or the table's file written.
 -- Assumes nothing.
-use mathlib.Core.Path.{◌≡◌, sym, ap, ◌∙◌}
-use Prim.Native.Nat.{ℕ}
-use mathlib.Core.List.{List}
-use Rattle.layout.specs.declared.Table.{Table}
-use Rattle.layout.specs.declared.Verdict.{Verdict}
-use Rattle.layout.specs.declared.Verdict.TheVariants.{Accepted, Refused}
-use Rattle.layout.specs.Answers.{said, refused as refusal, wrote}
-use Rattle.table.specs.Format.{table_from, handed, handed_out}
-use Rattle.table.specs.Writing.{write_of}
-use Rattle.table.proofs.Sound.{refused_from, loaded_from}
-use Rattle.making.specs.Making.{make_of, left_by, make_left}
-use Rattle.making.proofs.Written.{made_left}
+use Rattle.std.proofs.Common.{◌≡◌, Err, sym, ap, ◌∙◌, rules}
+use Rattle.layout.specs.Answers.{wrote}
+use Rattle.table.specs.Writing.{written_said}
+use Rattle.making.specs.declared.error.MakeError.TheVariants.{Rule}
+use Rattle.making.specs.Errors.{made_said, made_given}
+use Rattle.making.proofs.Written.{error_left, written_left}
 use Rattle.making.proofs.making.make.Goals as goal
 
-refused-left : (text out : List ℕ) (v : Verdict) (t : Table) {n p : ℕ} → handed (said v) t ≡ handed_out (make_of text) → v ≡ Refused n p
-    → wrote (refusal n p) out ≡ make_left text out
-unfolding make_left
-refused-left text out v t e r = sym (ap (λ o. left_by o out) (refused_from (make_of text) _ _ (sym (ap (λ h. h.said) e) ∙ ap said r)))
+pub returns-in_err-t : goal.returns-in_err-t
+returns-in_err-t c =
+    let e : c.from_residual.result ≡ Err c.in_err-t.field-0.0 = search rules in
+    ap (λ r. wrote (made_said r) c.args.out.now) e ∙ error_left _ _ c.in_err-t.field-0.0 (ap made_given (sym c.in_err-t.was) ∙ c.made.ensures)
 
-written-left : (text out : List ℕ) (v : Verdict) (t : Table) → handed (said v) t ≡ handed_out (make_of text) → v ≡ Accepted
-    → write_of t out ≡ make_left text out
-unfolding make_left
-written-left text out v t e a =
-    let l = loaded_from (make_of text) (sym (ap (λ h. h.said) e) ∙ ap said a) in
-    ap (λ t. write_of t out) (ap (λ h. h.table) e ∙ ap table_from l.1) ∙ made_left text l.0 out l.1 ∙ sym (ap (λ o. left_by o out) l.1)
+pub returns-in_err-write : goal.returns-in_err-write
+returns-in_err-write c =
+    let e : c.from_residual-in_err-write.result ≡ Err (Rule c.in_err-write.field-0.0) = search rules in
+    ap (λ r. wrote (made_said r) c.write.new.out) e ∙ ap (λ r. wrote (written_said r) c.write.new.out) (sym c.in_err-write.was) ∙ c.write.ensures
+    ∙ written_left _ _ _ (ap made_given (sym c.in_ok-t.was) ∙ c.made.ensures)
 
-pub returns-in-Refused : goal.returns-in-Refused
-returns-in-Refused c = refused-left _ _ _ _ c.made-read.ensures c.in-Refused.is
-
-pub returns-in-Accepted : goal.returns-in-Accepted
-returns-in-Accepted c = c.write.ensures ∙ written-left _ _ _ _ c.made-read.ensures c.in-Accepted.is
+pub returns : goal.returns
+returns c =
+    ap (λ r. wrote (written_said r) c.write.new.out) (sym c.in_ok-write.was) ∙ c.write.ensures
+    ∙ written_left _ _ _ (ap made_given (sym c.in_ok-t.was) ∙ c.made.ensures)

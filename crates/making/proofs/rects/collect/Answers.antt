@@ -1,46 +1,52 @@
--- One rectangle's line after the other: what is left, collected from here, comes to the whole.
+-- One rectangle's line after the other.
 -- Assumes nothing.
-use mathlib.Core.Path.{refl, sym, ap, ◌∙◌}
-use native.Mathlib.Omega.{arith}
-use mathlib.Core.Bool.{cond}
-use native.Mathlib.Numerals.{add-one}
-use lib.ListN.{length}
-use borrow.Author.Tests.{le-leb, lt-leb}
-use Rattle.arith.specs.Tab.{tab}
-use Rattle.layout.specs.declared.Verdict.TheVariants.{Accepted}
-use Rattle.layout.specs.Contents.{contents}
+use Rattle.std.proofs.Common.{◌≡◌, Err, sym, ap, ◌∙◌, arith, rules, length-set}
 use Rattle.layout.specs.Answers.{said}
-use Rattle.limits.proofs.Values.{slots}
-use Rattle.table.specs.Format.{refused, loaded, handed, handed_out}
-use Rattle.making.specs.Making.{lines_with}
-use Rattle.making.proofs.Collecting.{collect_all, collect_ends, collect_stops, collect_goes, handed_refusal}
+use Rattle.layout.specs.Questions.{number_of}
+use Rattle.layout.specs.Contents.{table_of}
+use Rattle.table.specs.Format.{refused, given}
+use Rattle.table.proofs.Asked.{asked_no}
+use Rattle.making.specs.Steps.{lines_left}
+use Rattle.making.proofs.Collecting.{collect_stops, collect_goes, free, begun, given_no, given_yes, nine_no, nine_yes, asked_yes}
 use Rattle.making.proofs.rects.collect.Goals as goal
 
-pub loop-found-init : goal.loop-found-init
-unfolding lines_with tab
-loop-found-init c = let p = c.requires in
-    (p.text_len_bound, rw p.start_value (record { is = refl; most = omega arith; from = 0; at = 1; found = c.find-found.ensures; same = collect_all _ }))
+pub loop-line-init : goal.loop-line-init
+loop-line-init c =
+    let it = ap lines_left c.into_iter-line-iterator.ensures.into_iter_gives ∙ c.of-line-items.ensures.left in
+    begun _ _ _ (c.bare-t.ensures ∙ ap table_of c.header.ensures) it
 
-pub returns-in-Refused : goal.returns-in-Refused
-returns-in-Refused c = let k = c.loop-found.invariant.1 in
-    let v = rw c.rect-r.ensures at c.rect_asked-v.ensures in
-    handed_refusal _ _ (collect_stops k (omega arith) (sym v ∙ c.in-Refused.is)) c.refused.ensures.verdict_value c.refused.ensures.table_value
+pub overflow_sub-t : goal.overflow_sub-t
+overflow_sub-t c = c.loop-line.invariant.0.most
 
-pub loop-found-preserved : goal.loop-found-preserved
-loop-found-preserved c = let i = c.loop-found.invariant in
-    let v = rw c.rect-r.ensures at c.rect_asked-v.ensures in
-    (i.0, rw c.rect-r.ensures (collect_goes i.1 (omega arith) (sym v ∙ c.in-Accepted.is) (rw add-one at c.find-found-in-loop-found.ensures)))
+pub bounds-t-t : goal.bounds-t-t
+bounds-t-t c =
+    let i = c.loop-line.invariant in
+    let v = rw c.rect-r.ensures at c.rect_asked.ensures in
+    let f = free i.0 _ _ c.in-Some.ensures.steps (sym v ∙ ap said c.in_ok-rect_asked.was) in
+    let l = i.1 in
+    omega arith
 
-pub returns-then-t-eq0 : goal.returns-then-t-eq0
-returns-then-t-eq0 c = let k = c.loop-found.invariant.1 in
-    let e = slots c.loop-found.t in
-    let n = lt-leb 1 (length (contents c.loop-found.t).rects) (omega arith) in
-    handed_refusal _ _ (sym (ap (λ b. cond b (loaded (contents c.loop-found.t)) (refused 9 0)) n) ∙ collect_ends k (omega arith))
-    c.refused-then-t-eq0.ensures.verdict_value c.refused-then-t-eq0.ensures.table_value
+pub returns-in_err-rect_asked : goal.returns-in_err-rect_asked
+returns-in_err-rect_asked c =
+    let v = rw c.rect-r.ensures at c.rect_asked.ensures in
+    let e : c.from_residual.result ≡ Err c.in_err-rect_asked.field-0.0 = search rules in
+    ap given e ∙ given_no _ (collect_stops c.loop-line.invariant.0 _ _ c.in-Some.ensures.steps (sym v ∙ ap said c.in_err-rect_asked.was))
+
+pub loop-line-preserved : goal.loop-line-preserved
+loop-line-preserved c =
+    let i = c.loop-line.invariant in
+    let v = rw c.rect-r.ensures at c.rect_asked.ensures in (
+      rw c.rect-r.ensures (collect_goes i.0 _ _ c.in-Some.ensures.steps (sym v ∙ ap said c.in_ok-rect_asked.was)),
+      length-set c.loop-line.t.rects c.loop-line.t.count c.rect-r.result ∙ i.1,
+    )
+
+pub returns-in_err-unless : goal.returns-in_err-unless
+returns-in_err-unless c =
+    let n = asked_no _ _ _ (sym c.unless.ensures ∙ c.in_err-unless.was) in
+    let e : c.from_residual-in_err-unless.result ≡ Err c.in_err-unless.field-0.0 = search rules in
+    ap given e ∙ given_no _ (ap (λ r. refused (number_of r.question) r.place) n.1 ∙ nine_no c.loop-line.invariant.0 c.in-None.ensures.steps.0 n.0)
 
 pub returns : goal.returns
-returns c = let k = c.loop-found.invariant.1 in
-    let e = slots c.loop-found.t in
-    let n = le-leb 1 (length (contents c.loop-found.t).rects) (omega arith) in
-    ap (handed (said Accepted)) k.is
-    ∙ ap handed_out (sym (ap (λ b. cond b (loaded (contents c.loop-found.t)) (refused 9 0)) n) ∙ collect_ends k (omega arith))
+returns c =
+    let k = c.loop-line.invariant.0 in
+    given_yes _ k.is (nine_yes k c.in-None.ensures.steps.0 (asked_yes _ _ (sym c.unless.ensures ∙ c.in_ok-unless.was)))

@@ -1,13 +1,11 @@
--- `passes::running_sums` adds each place to the sum so far, modulo 2^32, and writes it: a pass over the line, the sum being that of the
--- places before.
 -- Assumes nothing.
-use Rattle.std.proofs.Common.{◌≡◌, ◌-◌, ◌%◌}
-use Rattle.arith.proofs.Passes.{Pass}
+use Rattle.std.proofs.Common.{◌≡◌, ℕ, ◌<◌, ◌≤◌, ◌%◌, get_or}
 use Rattle.passes.specs.Passes.{prefix, running}
 use Rattle.passes.proofs.lines.running_sums.Given as goal
 
-abbrev pub invariant-loop-c : goal.invariant-loop-c
-invariant-loop-c l = Pass l.n (running l.initial.line) l.initial.line l.c l.line × (l.s ≡ prefix l.initial.line l.c % 4294967296)
-
-abbrev pub decreases-loop-c : goal.decreases-loop-c
-decreases-loop-c l = l.n - l.c
+abbrev pub invariant-loop-place : goal.invariant-loop-place
+invariant-loop-place l = record {
+  done : (k : ℕ) → k < l.place-index → get_or l.line k 0 ≡ running l.initial.line k;
+  rest : (k : ℕ) → l.place-index ≤ k → get_or l.line k 0 ≡ get_or l.initial.line k 0;
+  sum : l.sum ≡ prefix l.initial.line l.place-index % 4294967296;
+}

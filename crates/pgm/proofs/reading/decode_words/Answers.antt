@@ -1,10 +1,7 @@
--- `pgm::decode_words` writes n samples into the output, and each sample is two bytes, the high one first: a pass over it.
--- Assumes nothing.
-use Rattle.arith.proofs.Passes.{none_done, one_more}
+-- Every place is written.
+use Rattle.std.proofs.Common.{arith}
+use Rattle.pgm.proofs.Passes.{filled_by}
 use Rattle.pgm.proofs.reading.decode_words.Goals as goal
 
-pub loop-k-init : goal.loop-k-init
-loop-k-init c = (none_done _ _ c.args.out.now c.requires.1, c.requires.0)
-
-pub loop-k-preserved : goal.loop-k-preserved
-loop-k-preserved c = (one_more c.loop-k.invariant.0 c.loop-k-test.true c.joined.ensures, c.loop-k.invariant.1)
+pub returns : goal.returns
+returns c = filled_by _ _ _ 0 (omega arith) (λ k below. c.loop-k.invariant k (omega arith))

@@ -1,59 +1,24 @@
 -- Pixel after pixel is put, two bytes each.
--- Assumes nothing.
-use mir.Facts.{to_z-of_z}
+use Rattle.std.proofs.Common.{◌≡◌, ℕ, ◌*◌, ◌+◌, ap, ◌∙◌, add-one, get_or, pos, arith, rules, to_z-of_z, set}
 use mir.Syntax.{w32}
 use mir.Val.{SFits}
-use Prim.Native.Nat.{◌+◌, ◌-◌, ◌*◌, ◌^◌, ◌≤◌}
-use native.Mathlib.Omega.{arith}
-use native.Mathlib.Numerals.{add-one}
-use mathlib.Core.Path.{refl, ap, ◌∙◌}
-use lib.ListN.{get_or, set, length-set}
-use lib.Pow.{pow_mono}
 use Rattle.arith.proofs.Passes.{grid_none}
-use Rattle.pgm.specs.Shade.{byte_of}
-use Rattle.pgm.proofs.Mapping.{word_range, two_set}
-use lib.IntN.{pos}
-use borrow.Author.Rules.{rules}
-use Rattle.pgm.proofs.shades.put.Invariants.{bytes}
+use Rattle.pgm.specs.Shade.{shade, byte_of}
+use Rattle.pgm.proofs.Mapping.{two_set}
 use Rattle.pgm.proofs.shades.put.Goals as goal
 
-pub overflow_sub-w : goal.overflow_sub-w
-overflow_sub-w c = let r = (word_range _ c.requires.0).0 in omega arith
-
-pub overflow_sub-floor : goal.overflow_sub-floor
-overflow_sub-floor c = let r = word_range _ c.requires.0 in
-    let h = r.0 in
-    let l = r.1 in
-    let e = c.power.ensures.value (omega arith) in
-    let m : 2 ^ (c.args.w - 1) ≤ 2 ^ 31 = pow_mono {j = 31} (omega arith) in
-    omega arith
-
 pub loop-k-init : goal.loop-k-init
-loop-k-init c = let a = c.args in
-    let r = word_range _ c.requires.0 in
-    let h = r.0 in
-    let l = r.1 in
-    let e = c.power.ensures.value (omega arith) in
-    let m : 2 ^ (a.w - 1) ≤ 2 ^ 31 = pow_mono {j = 31} (omega arith) in
-    (search rules, grid_none 2 (bytes a.w a.pixels.now) a.out.now, refl, c.requires.2, c.requires.1, omega arith, c.excess-low.ensures, l)
+loop-k-init c = grid_none 2 (λ k. byte_of (shade c.args.w (get_or c.args.pixels.now k (pos 0)))) c.args.out.now
 
 pub loop-k-preserved : goal.loop-k-preserved
 unfolding byte_of
-loop-k-preserved c = let a = c.args in
-    let i = c.loop-k.invariant in
+loop-k-preserved c =
     let k = c.loop-k.k in
-    let x = i.2 in
-    let y = i.3 in
-    let g = bytes a.w a.pixels.now in
-    let f : SFits w32 (get_or a.pixels.now k (pos 0)) = search rules in
-    let e = rw (to_z-of_z f) at c.shade-s.ensures.value in (
-      search rules,
-      rw (add-one k, e)
-          (ap (λ out. set (set out (k * 2) (g k 0)) (k * 2 + 1) (g k 1)) i.1 ∙ two_set k g a.out.now 0 (omega arith)),
-      simp length-set i.2,
-      i.3,
-      i.4,
-      i.5,
-      i.6,
-      i.7,
-    )
+    let pixels = c.args.pixels.now in
+    let g = λ (k : ℕ). byte_of (shade c.args.w (get_or pixels k (pos 0))) in
+    let fits : SFits w32 (get_or pixels k (pos 0)) = search rules in
+    let sample = rw (to_z-of_z fits) at c.shade.ensures in
+    let high : get_or c.to_be_bytes.result 0 0 ≡ g k 0 = ap (λ bs. get_or bs 0 0) c.to_be_bytes.ensures ∙ omega (arith, sample) in
+    let low : get_or c.to_be_bytes.result 1 0 ≡ g k 1 = ap (λ bs. get_or bs 1 0) c.to_be_bytes.ensures ∙ omega (arith, sample) in
+    rw (add-one k, high, low)
+    (ap (λ out. set (set out (k * 2) (g k 0)) (k * 2 + 1) (g k 1)) c.loop-k.invariant ∙ two_set k g c.args.out.now 0 (omega arith))

@@ -1,9 +1,5 @@
 -- Every sample passed is dead, so that the mended sample is that of the place reached.
-use Prim.Native.Nat.{ℕ, ◌-◌, ◌≤◌}
-use native.Mathlib.Omega.{arith}
-use mathlib.Core.Path.{◌≡◌, sym, ap, ◌∙◌}
-use mathlib.Core.List.{List}
-use lib.ListN.{get_or}
+use Rattle.std.proofs.Common.{ℕ, ◌-◌, ◌≤◌, arith, ◌≡◌, sym, ap, ◌∙◌, List, get_or}
 use Rattle.rule.specs.Mended.{mended_at}
 use Rattle.rule.proofs.Mended.{mended_live, mended_back, mended_first}
 use Rattle.pixel.proofs.sums.live.Invariants.{row}

@@ -1,8 +1,5 @@
 -- Every sample passed is dead, so that the mended sample is that of the place reached.
-use Prim.Native.Nat.{ℕ, ◌+◌, ◌-◌, ◌≤◌}
-use mathlib.Core.Path.{◌≡◌}
-use mathlib.Core.List.{List}
-use lib.ListN.{get_or}
+use Rattle.std.proofs.Common.{ℕ, ◌+◌, ◌-◌, ◌≤◌, ◌≡◌, List, get_or}
 use Rattle.rule.specs.Mended.{mended_at}
 use Rattle.pixel.proofs.sums.live.Given as goal
 

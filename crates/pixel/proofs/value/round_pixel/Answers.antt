@@ -1,11 +1,10 @@
 -- above - below divided by 2^shift and rounded down, by the law of differences of words.
+use Rattle.std.proofs.Math.IntN.{sub_ℕ}
+use Rattle.std.proofs.Common.{to_z-of_z, ◌≡◌, ◌∙◌}
 use Rattle.arith.proofs.Words.{fits_mag}
-use lib.IntN.{sub_ℕ}
 use Rattle.arith.specs.Floor.{floor_div}
 use mir.Syntax.{w64}
 use mir.Val.{to_z, of_z}
-use mir.Facts.{to_z-of_z}
-use mathlib.Core.Path.{◌≡◌, ◌∙◌}
 use Rattle.arith.proofs.Differences.{sub_value}
 use Rattle.pixel.proofs.value.round_pixel.Goals as goal
 

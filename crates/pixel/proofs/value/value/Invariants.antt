@@ -1,13 +1,10 @@
 -- The weighted sums above and below zero are added up apart; their difference is the value, and its floor fits the word.
+use Rattle.std.proofs.Common.{pos, ◌≡◌, List, ℕ, ◌*◌, ◌^◌, ◌≤◌}
 use Rattle.rule.specs.Sums.{sample_at, scaled_sum}
 use Rattle.layout.specs.Contents.{rect}
 use Rattle.layout.specs.declared.Table.{Table}
 use Rattle.arith.specs.Part.{pos_part, neg_part}
 use Rattle.arith.specs.Sum.{sum}
-use lib.IntN.{pos}
-use mathlib.Core.Path.{◌≡◌}
-use mathlib.Core.List.{List}
-use Prim.Native.Nat.{ℕ, ◌-◌, ◌*◌, ◌^◌, ◌≤◌}
 use Rattle.pixel.proofs.value.value.Given as goal
 
 -- the parts of rectangle k's term
@@ -20,9 +17,10 @@ highs t width samples r c k = pos_part (rect t k).weight * sums t width samples 
 abbrev pub lows : Table → (width : ℕ) → List ℕ → (r c k : ℕ) → ℕ
 lows t width samples r c k = neg_part (rect t k).weight * sums t width samples r c k
 
-abbrev pub invariant-loop-k : goal.invariant-loop-k
-invariant-loop-k l = (l.k ≤ l.count) × (l.above ≡ sum l.k (highs l.t l.width l.samples l.r l.c)) × (l.below ≡ sum l.k (lows l.t l.width l.samples l.r l.c))
-    × (l.above ≤ l.k * 2 ^ 37) × (l.below ≤ l.k * 2 ^ 37)
-
-abbrev pub decreases-loop-k : goal.decreases-loop-k
-decreases-loop-k l = l.count - l.k
+abbrev pub invariant-loop-d : goal.invariant-loop-d
+invariant-loop-d l = record {
+  above : l.above ≡ sum l.d-index (highs l.t l.scan.width l.scan.samples.now l.r l.c);
+  below : l.below ≡ sum l.d-index (lows l.t l.scan.width l.scan.samples.now l.r l.c);
+  above_small : l.above ≤ l.d-index * 2 ^ 37;
+  below_small : l.below ≤ l.d-index * 2 ^ 37;
+}

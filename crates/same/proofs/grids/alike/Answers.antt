@@ -1,6 +1,6 @@
 -- `same::alike`: two entries are equal where their parts, added crosswise, are.
 -- Assumes nothing.
-use mathlib.Core.Path.{sym}
+use Rattle.std.proofs.Common.{sym}
 use Rattle.arith.proofs.Ints.{diff_eq_z}
 use Rattle.same.specs.Same.{alike_at}
 use Rattle.same.proofs.grids.alike.Goals as goal

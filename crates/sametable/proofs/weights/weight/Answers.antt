@@ -15,7 +15,7 @@ overflow_cast-result-3 c = let m = c.entry-e.ensures.high_le_entry_most in
 
 pub returns : goal.returns
 returns c = let m = c.entry-e.ensures.high_le_entry_most in
-    let t = c.args.t in
+    let t = c.args.t.now in
     let row = rw (to_z-of_z c.ranges.row) at c.place.ensures.0 in
     let col = rw (to_z-of_z c.ranges.col) at c.place-2.ensures.0 in
     to_z-of_z (overflow_cast-result-3 c)

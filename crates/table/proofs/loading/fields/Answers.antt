@@ -1,121 +1,89 @@
--- The fields are read one after the other; the invariant is that what is left of the file, read from here, comes to the whole.
-use Rattle.table.specs.Format.{loaded, refused, plus, rect_of, field_asks, handed, handed_out, head_of, fields_of}
-use Rattle.layout.specs.Answers.{said, verdict}
+-- The fields are read one after the other.
+use Rattle.std.proofs.Common.{◌≡◌, ℕ, suc, ◌+◌, ◌-◌, ◌<◌, List, [], ◌∷◌, length, drop, refl, sym, ap, ◌∙◌, cond, leb, arith, rules, Err, false-eqb}
+use Rattle.std.proofs.lemmas.List.{length-append}
+use Rattle.arith.specs.Tab.{tab}
+use Rattle.layout.specs.declared.asking.Refusal.{Refusal}
+use Rattle.layout.specs.declared.asking.Question.TheVariants.{Rectangle}
+use Rattle.layout.specs.declared.Table.{Table}
+use Rattle.layout.specs.Contents.{contents, table_of}
+use Rattle.layout.specs.Answers.{no_said, accepted, verdict}
 use Rattle.layout.proofs.Questions.{on_verdict}
-use borrow.Author.Tests.{le-leb, lt-leb}
-use Rattle.table.proofs.Asked.{FieldTests, field_accepted}
+use Rattle.limits.proofs.Asked.{asked_yes}
 use Rattle.limits.proofs.Values.{slots}
-use mathlib.Core.List.{◌∷◌, List, []}
-use lib.ListN.{length-append, length-drop, length, drop}
+use Rattle.table.proofs.Asked.{asked_no}
+use Rattle.table.specs.Format.{Outcome, loaded, refused, plus, rect_of, field_asks, handed, handed_out, given, fields_of}
 use Rattle.table.proofs.Fields.{next, fields_end, fields_step}
 use Rattle.table.proofs.Structs.{contents-table_of, placed, placed_is}
-use Rattle.layout.specs.Contents.{no_rects, contents, table_of}
-use Rattle.layout.specs.declared.Verdict.TheVariants.{Accepted, Refused}
-use Rattle.layout.specs.declared.Verdict.{Verdict}
-use Rattle.layout.specs.declared.Table.{Table}
-use Rattle.arith.specs.Tab.{tab}
-use lib.Seq.{drop-drop}
-use Rattle.arith.proofs.Parts.{tail_is}
-use mathlib.Core.Path.{refl, sym, ap, ap₂, ◌∙◌, ◌≡◌}
-use mathlib.Core.Bool.{cond}
-use native.Mathlib.Omega.{arith}
-use Prim.Native.Nat.{ℕ, suc, ◌+◌, ◌-◌, ◌≤◌, ◌<◌}
-use borrow.Author.Rules.{rules}
 use Rattle.table.proofs.loading.fields.Goals as goal
 
--- what the loop has come to, where it ends in a refusal
-ended : (bs : List ℕ) (n p : ℕ) (v : Verdict) (t : Table) → fields_of 16 (drop 9 bs) (head_of bs) ≡ refused n p
-    → v ≡ Refused n p → t ≡ table_of (no_rects 0 0 0 0 0 0)
-    → handed (said v) t ≡ handed_out (fields_of 16 (drop 9 bs) (head_of bs))
-ended bs n p v t e h k = ap₂ handed (ap said h) k ∙ sym (ap handed_out e)
+-- a field that is refused ends it
+ends : (left : ℕ) (bs : List ℕ) (t : Table) (e : Refusal) (o : Outcome) → 0 < length bs → no_said e ≡ verdict (field_asks left bs)
+    → fields_of left bs (contents t) ≡ o → given (Err e) ≡ handed_out o
+ends left bs t e o more said so_far =
+    sym (ap handed_out (sym so_far ∙ fields_step left bs (contents t) more ∙ ap (λ s. on_verdict s refused (next left bs (contents t))) (sym said)))
 
--- a turn of the loop: the field at `at` was accepted, and its rectangle goes into the first free slot
-module _ (bs : List ℕ) (t : Table) (at : ℕ) (inv : ((t ≡ table_of (contents t)) × (t.count ≤ 16) × (at ≤ length bs) × (fields_of (16 - t.count) (drop at bs) (contents t) ≡ fields_of 16 (drop 9 bs) (head_of bs)))) (more : at < length bs)
-    (v : verdict (field_asks (16 - t.count) (drop at bs)) ≡ Accepted) where
-  field-good : FieldTests (16 - t.count) (drop at bs)
-  field-good = field_accepted (16 - t.count) (drop at bs) v
+-- one that is read goes into the first free slot
+module _ (t : Table) (bs : List ℕ) (made : t ≡ table_of (contents t)) (free : t.count < 16) where
+  placed_made : placed t (rect_of bs) ≡ table_of (plus (contents t) (rect_of bs))
+  placed_made =
+      ap (λ x. placed x (rect_of bs)) made ∙ placed_is (contents t) (rect_of bs) (let e = slots t in omega (arith, free))
 
-  free : t.count < 16
-  free = let r = field-good.room in omega arith
+  placed_contents : contents (placed t (rect_of bs)) ≡ plus (contents t) (rect_of bs)
+  placed_contents =
+      ap contents placed_made
+      ∙ contents-table_of (plus (contents t) (rect_of bs))
+      (let e = slots t in let l = length-append (contents t).rects (rect_of bs ∷ []) in omega (arith, free))
 
-  within-bytes : at + 9 ≤ length bs
-  within-bytes = let d = length-drop at bs in let w = field-good.whole in omega arith
+  goes_on : (left n : ℕ) (o : Outcome) → left ≡ suc n → 0 < length bs → accepted [] ≡ verdict (field_asks left bs)
+      → fields_of left bs (contents t) ≡ o → fields_of n (drop 9 bs) (contents (placed t (rect_of bs))) ≡ o
+  goes_on left n o is more said so_far =
+      ap (fields_of n (drop 9 bs)) placed_contents
+      ∙ sym (fields_step left bs (contents t) more
+      ∙ ap (λ s. on_verdict s refused (next left bs (contents t))) (sym said)
+      ∙ ap (λ k. next k bs (contents t)) is)
+      ∙ so_far
 
-  next_is : placed t (rect_of (drop at bs)) ≡ table_of (plus (contents t) (rect_of (drop at bs)))
-  next_is =
-      ap (λ x. placed x (rect_of (drop at bs))) inv.0
-      ∙ placed_is (contents t) (rect_of (drop at bs)) (let e = slots t in let g = free in omega arith)
+-- the end of the file
+ended : (left : ℕ) (bs : List ℕ) (t : Table) (o : Outcome) → length bs ≡ 0 → fields_of left bs (contents t) ≡ o
+    → cond (leb 1 t.count) (loaded (contents t)) (refused 9 0) ≡ o
+ended left bs t o z so_far = ap (λ n. cond (leb 1 n) (loaded (contents t)) (refused 9 0)) (sym (slots t)) ∙ sym (fields_end left bs (contents t) z) ∙ so_far
 
-  next-contents : contents (placed t (rect_of (drop at bs))) ≡ plus (contents t) (rect_of (drop at bs))
-  next-contents =
-      ap contents next_is
-      ∙ contents-table_of (plus (contents t) (rect_of (drop at bs)))
-      (let e = slots t in let g = free in let l = length-append (contents t).rects (rect_of (drop at bs) ∷ []) in omega arith)
-
-  next-inv : (((placed t (rect_of (drop at bs))) ≡ table_of (contents (placed t (rect_of (drop at bs))))) × ((placed t (rect_of (drop at bs))).count ≤ 16) × ((at + 9) ≤ length bs) × (fields_of (16 - (placed t (rect_of (drop at bs))).count) (drop (at + 9) bs) (contents (placed t (rect_of (drop at bs)))) ≡ fields_of 16 (drop 9 bs) (head_of bs)))
-  next-inv =
-      let d = length-drop at bs in
-      let g = free in
-      let z : 16 - t.count ≡ suc (16 - (t.count + 1)) = omega arith in (
-        next_is ∙ ap table_of (sym next-contents),
-        omega arith,
-        within-bytes,
-        ap (λ x. fields_of (16 - (t.count + 1)) (drop (at + 9) bs) x) next-contents
-            ∙ ap (λ x. fields_of (16 - (t.count + 1)) x (plus (contents t) (rect_of (drop at bs)))) (sym (drop-drop 9 at bs))
-            ∙ sym (fields_step (16 - t.count) (drop at bs) (contents t) (omega arith)
-            ∙ ap (λ x. on_verdict x refused (next (16 - t.count) (drop at bs) (contents t))) v
-            ∙ ap (λ n. next n (drop at bs) (contents t)) z)
-            ∙ inv.3,
-      )
-
-pub loop-at-init : goal.loop-at-init
+pub loop-rest-init : goal.loop-rest-init
 unfolding tab
-loop-at-init c = let e = c.requires.start_value in
-    let bs = c.args.bytes.now in
-    rw e (refl, search rules, c.requires.in_bounds, refl)
+loop-rest-init c = rw c.bare-table.ensures (record { made = refl; few = omega arith; same = refl })
 
-pub returns-in-Refused : goal.returns-in-Refused
-returns-in-Refused c = let t = c.loop-at.t in
-    let bs = c.args.bytes.now in
-    let rest = drop c.loop-at.at bs in
-    let d = length-drop c.loop-at.at bs in
-    let f = rw (tail_is c.loop-at.at bs) at c.field-v.ensures in
-    let v = sym f ∙ c.in-Refused.is in
-    let e =
-    sym c.loop-at.invariant.3 ∙ fields_step (16 - t.count) rest (contents t) (omega arith)
-    ∙ ap (λ x. on_verdict x refused (next (16 - t.count) rest (contents t))) v in
-    ended bs _ _ _ _ e c.refused.ensures.verdict_value c.refused.ensures.table_value
+pub returns-in_err-rect : goal.returns-in_err-rect
+returns-in_err-rect c =
+    let more : 0 < length c.loop-rest.rest.now = omega (arith, false-eqb _ 0 c.loop-rest-test.ensures) in
+    let h = ends _ _ _ _ _ more c.in_err-rect.ensures.said c.loop-rest.invariant.same in
+    search (rules, h)
 
-pub rect_of-requires : goal.rect_of-requires
-rect_of-requires c = let bs = c.args.bytes.now in
-    let f = rw (tail_is c.loop-at.at bs) at c.field-v.ensures in
-    rw (tail_is c.loop-at.at bs) (field_accepted _ _ (sym f ∙ c.in-Accepted.is)).whole
+pub loop-rest-preserved : goal.loop-rest-preserved
+loop-rest-preserved c =
+    let t = c.loop-rest.table in
+    let bs = c.loop-rest.rest.now in
+    let i = c.loop-rest.invariant in
+    let r = c.in_ok-rect.ensures in
+    let more : 0 < length bs = omega (arith, false-eqb _ 0 c.loop-rest-test.ensures) in
+    let free : t.count < 16 = omega (arith, r.room) in
+    let left : 16 - t.count ≡ suc (16 - (t.count + 1)) = omega (arith, free) in
+    rw (r.value, c.split_at.ensures.back)
+    (record {
+      made = placed_made t bs i.made free ∙ ap table_of (sym (placed_contents t bs i.made free));
+      few = omega (arith, free);
+      same = goes_on t bs i.made free (16 - t.count) (16 - (t.count + 1)) _ left more r.said i.same;
+    })
 
-pub bounds-t-count : goal.bounds-t-count
-bounds-t-count c = let r = (field_accepted _ _ (sym c.field-v.ensures ∙ c.in-Accepted.is)).room in
-    omega arith
-
-pub loop-at-preserved : goal.loop-at-preserved
-loop-at-preserved c = let bs = c.args.bytes.now in
-    let f = rw (tail_is c.loop-at.at bs) at c.field-v.ensures in
-    let r = rw (tail_is c.loop-at.at bs) at c.rect_of.ensures in
-    rw r (next-inv bs c.loop-at.t c.loop-at.at c.loop-at.invariant (omega arith) (sym f ∙ c.in-Accepted.is))
-
-pub returns-then-t-eq0 : goal.returns-then-t-eq0
-returns-then-t-eq0 c = let i = c.loop-at.invariant in
-    let bs = c.args.bytes.now in
-    let d = length-drop c.loop-at.at bs in
-    let k = slots c.loop-at.t in
-    let e = sym i.3 ∙ fields_end (16 - c.loop-at.t.count) (drop c.loop-at.at bs) (contents c.loop-at.t) (omega arith) in
-    let n = lt-leb 1 (length (contents c.loop-at.t).rects) (omega arith) in
-    ended bs 9 0 _ _ (e ∙ ap (λ b. cond b (loaded (contents c.loop-at.t)) (refused 9 0)) n) c.refused-then-t-eq0.ensures.verdict_value c.refused-then-t-eq0.ensures.table_value
+pub returns-in_err-unless : goal.returns-in_err-unless
+returns-in_err-unless c =
+    let h = ended _ _ c.loop-rest.table _ (search rules) c.loop-rest.invariant.same in
+    let n = asked_no Rectangle _ _ (sym c.unless.ensures ∙ c.in_err-unless.was) in
+    let o = sym (ap (λ b. cond b (loaded (contents c.loop-rest.table)) (refused 9 0)) n.0) ∙ h in
+    let g = ap (λ x. given (Err x)) n.1 ∙ ap handed_out o in
+    search (rules, g)
 
 pub returns : goal.returns
-returns c = let i = c.loop-at.invariant in
-    let bs = c.args.bytes.now in
-    let d = length-drop c.loop-at.at bs in
-    let k = slots c.loop-at.t in
-    let e = sym i.3 ∙ fields_end (16 - c.loop-at.t.count) (drop c.loop-at.at bs) (contents c.loop-at.t) (omega arith) in
-    let n = le-leb 1 (length (contents c.loop-at.t).rects) (omega arith) in
-    let o = e ∙ ap (λ b. cond b (loaded (contents c.loop-at.t)) (refused 9 0)) n in
-    ap (handed (said Accepted)) i.0 ∙ sym (ap handed_out o)
+returns c =
+    let h = ended _ _ c.loop-rest.table _ (search rules) c.loop-rest.invariant.same in
+    let y = asked_yes Rectangle _ _ (sym c.unless.ensures ∙ c.in_ok-unless.was) in
+    ap (handed (accepted [])) c.loop-rest.invariant.made ∙ ap handed_out (sym (ap (λ b. cond b (loaded (contents c.loop-rest.table)) (refused 9 0)) y) ∙ h)

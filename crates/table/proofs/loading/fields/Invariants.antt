@@ -1,14 +1,16 @@
--- The fields are read one after the other; the invariant is that what is left of the file, read from here, comes to the whole.
-use Rattle.table.specs.Format.{head_of, fields_of}
-use Rattle.layout.specs.Contents.{contents, table_of}
-use lib.ListN.{length, drop}
-use mathlib.Core.Path.{◌≡◌}
-use Prim.Native.Nat.{◌-◌, ◌≤◌}
+use Rattle.std.proofs.Common.{◌≡◌, ◌-◌, ◌≤◌, length}
+use Rattle.layout.specs.Contents.{no_rects, contents, table_of}
+use Rattle.table.specs.Format.{fields_of}
 use Rattle.table.proofs.loading.fields.Given as goal
 
-abbrev pub invariant-loop-at : goal.invariant-loop-at
-invariant-loop-at l = (l.t ≡ table_of (contents l.t)) × (l.t.count ≤ 16) × (l.at ≤ length l.bytes)
-    × (fields_of (16 - l.t.count) (drop l.at l.bytes) (contents l.t) ≡ fields_of 16 (drop 9 l.bytes) (head_of l.bytes))
+-- what is left of the file, read from here, comes to the whole
+abbrev pub invariant-loop-rest : goal.invariant-loop-rest
+invariant-loop-rest l = record {
+  made : l.table ≡ table_of (contents l.table);
+  few : l.table.count ≤ 16;
+  same : fields_of (16 - l.table.count) l.rest (contents l.table)
+      ≡ fields_of 16 l.bytes (no_rects l.fn.header.b l.fn.header.q1 l.fn.header.q2 l.fn.header.q3 l.fn.header.t l.fn.header.w);
+}
 
-abbrev pub decreases-loop-at : goal.decreases-loop-at
-decreases-loop-at l = length l.bytes - l.at
+abbrev pub decreases-loop-rest : goal.decreases-loop-rest
+decreases-loop-rest l = length l.rest

@@ -1,9 +1,10 @@
--- The digits are asked from behind the sign on.
+-- The digits are asked behind the sign.
 -- Assumes nothing.
-use mathlib.Core.Path.{ap, ◌∙◌}
+use Rattle.std.proofs.Common.{ap, ◌∙◌}
 use Rattle.words.specs.Words.{is_integer, spelt}
+use Rattle.words.proofs.Digits.{spelt_behind}
 use Rattle.words.proofs.numbers.is_integer.Goals as goal
 
 pub returns : goal.returns
 unfolding is_integer
-returns c = c.spelt.ensures ∙ ap (spelt _) c.sign-at.ensures
+returns c = c.spelt.ensures ∙ ap (λ w. spelt w 0) c.unsigned.ensures ∙ spelt_behind c.args.w.now

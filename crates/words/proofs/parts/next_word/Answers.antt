@@ -1,21 +1,21 @@
--- Past the gaps a word begins, if there is one, and ends where it ends.
+-- Past the gaps, up to what ends the word.
 -- Assumes nothing.
-use Prim.Native.Nat.{◌<◌}
-use mathlib.Core.Path.{◌≡◌, sym, ◌∙◌, subst}
-use mathlib.Core.Bool.{false}
-use lib.ListN.{length, get_or}
-use Rattle.words.specs.Words.{gap}
-use Rattle.words.proofs.Steps.{comment_none}
+use Rattle.std.proofs.Common.{sym, ◌∙◌, arith}
+use Rattle.words.proofs.Steps.{next_blank, next_none, next_some, to_end}
 use Rattle.words.proofs.parts.next_word.Goals as goal
 
-pub returns : goal.returns
-returns c = let line = c.args.line.now in
-    let p = c.past_gaps-start.ensures in
-    let w = c.word_end.ensures in
-    record {
-      from = p.0;
-      forth = w.0;
-      within = w.1;
-      words = sym p.2 ∙ w.2;
-      none = λ e. comment_none line _ (λ h. w.3 h (subst (λ i. i < length line → gap (get_or line i 0) ≡ false) e p.3 h)) w.1;
-    }
+pub returns-in_err-start : goal.returns-in_err-start
+returns-in_err-start c = rw c.from_residual.ensures (next_blank _ (sym c.word_start.ensures ∙ c.in_err-start.was))
+
+pub returns-then-end-eq0 : goal.returns-then-end-eq0
+returns-then-end-eq0 c =
+    next_none c.args.line.now c.in_ok-start.start (sym c.word_start.ensures
+    ∙ c.in_ok-start.was) _ (to_end c.in_ok-start.start c.args.line.now) c.unwrap_or-end.result
+    (rw c.word_end.ensures at c.unwrap_or-end.ensures) c.if-end-eq0.true
+
+pub returns-else-end-eq0 : goal.returns-else-end-eq0
+returns-else-end-eq0 c =
+    let w = next_some c.args.line.now c.in_ok-start.start (sym c.word_start.ensures
+    ∙ c.in_ok-start.was) _ (to_end c.in_ok-start.start c.args.line.now) c.unwrap_or-end.result
+    (rw c.word_end.ensures at c.unwrap_or-end.ensures) (omega arith) in
+    rw (c.split_at.ensures.front, c.split_at.ensures.back) w

@@ -1,18 +1,13 @@
--- One word after the other is passed: the word that is left to find is the same.
+-- Word k of those that come.
 -- Assumes nothing.
-use Prim.Native.Nat.{◌-◌}
-use native.Mathlib.Omega.{arith}
-use mathlib.Core.Path.{sym, ap, ◌∙◌}
-use mathlib.Core.List.{[]}
-use lib.ListN.{get_or}
-use Rattle.words.proofs.Steps.{next_behind, next_is}
+use Rattle.std.proofs.Common.{refl, ap, ◌∙◌}
+use Rattle.std.proofs.lemmas.Iterator.Consumers.{nth_from_yields_List, YieldsList-from_first}
+use Rattle.words.specs.declared.parts.Words.{Words}
+use Rattle.words.specs.Words.{words_of}
+use Rattle.words.proofs.Steps.{nth_word}
 use Rattle.words.proofs.parts.word.Goals as goal
 
-pub loop-left-preserved : goal.loop-left-preserved
-loop-left-preserved c = let n = c.next_word-found-in-loop-left.ensures in
-    let i = c.loop-left.invariant in
-    (c.loop-left.found.end, n, ap (λ ws. get_or ws (c.loop-left.left - 1) []) (sym n.words) ∙ sym (next_behind i.1 c.loop-left.left (omega arith)) ∙ i.2)
-
 pub returns : goal.returns
-returns c = let i = c.loop-left.invariant in
-    next_is i.1 _ c.loop-left.left (omega arith) i.2
+returns c = let n = nth_from_yields_List c.nth.result c.nth.new.self c.args.k c.nth.ensures.ran (YieldsList-from_first (λ w. w.now) (λ
+    (s : Words). words_of s.0.now) _ refl) in
+    ap (λ w. w.now) c.unwrap_or.ensures ∙ nth_word c.nth.result _ (words_of c.args.line.now) c.args.k n

@@ -1,0 +1,2 @@
+pub mod Goods
+pub mod Lefts
