@@ -30,19 +30,19 @@ fn blocks(counts: &[u16], rank: u32) -> Before
     requires { FindFits counts.now rank }
     ensures { BlocksEnd counts.now rank result.at result.sum }
 {
+    let n = counts.len();
     let mut sum = 0;
-    for k in 0..counts.len() / 16 {
-        let at = k * 16;
+    let mut at = 0;
+    // Counted by hand (C): no pass over columns may divide (scripts/passes.py), and so many blocks of 16 would be a division.
+    while 16 <= n - at {
         let more = sum + u32::from(block(&counts[at..at + 16]));
         if rank <= more {
             return Before { at, sum };
         }
         sum = more;
+        at += 16;
     }
-    Before {
-        at: counts.len() / 16 * 16,
-        sum,
-    }
+    Before { at, sum }
 }
 
 /// How many of these levels the sum of the counts passes below the rank, from a sum below it on. A look at every level without a branch is
