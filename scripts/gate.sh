@@ -1,7 +1,7 @@
 #!/bin/sh
 # The gate. `rt ci` proves every crate, tries the must-fail edits and runs the programs; the tests of the programs, the library for C, the examples,
-# the Python module, installing, the stack and the outside tests then use what it proved, and the lowered form of the passes over columns, which the
-# library was made of, is searched for a division. The last line is that of `rt ci`, 'N passed, M failed', and stands there only if all else passed.
+# the Python module, installing, the stack and the outside tests then use what it proved, the lowered form of the passes over columns, which the
+# library was made of, is searched for a division, and the library's names from outside are held to what the header says. The last line is that of `rt ci`, 'N passed, M failed', and stands there only if all else passed.
 # All that `rt ci` prints is in build/log/test.log.
 cd "$(dirname "$0")/.." || exit 2
 log=build/log/test.log
@@ -27,4 +27,10 @@ if grep '^rt: must-fail .*(only because a proof file names' "$log"; then
 fi
 make --no-print-directory programs examples python installed stack outside || { echo "what stands around the crates failed"; exit 1; }
 python3 scripts/passes.py || exit 1
+# what the header says that the library needs from outside
+needs=$(nm -u build/libstrip.a | sed -n 's/^ *U //p' | sort -u | tr '\n' ' ')
+if [ "$needs" != "memcpy memset " ]; then
+    echo "the library for C needs from outside: $needs"
+    exit 1
+fi
 echo "$last"

@@ -6,13 +6,23 @@ ghost use Rattle.std.specs.Prelude.{◌≡◌, ◌*◌, ◌%◌, ◌≤◌, pos,
 ghost use Rattle.arith.specs.Tab.{tab, paste};
 ghost use Rattle.ring.specs.Ring.{row_at};
 
+/// Copies a row, sample by sample: `copy_from_slice` from one lent store into another would have the library for C ask for memmove.
+fn copy(to: &mut [u16], row: &[u16])
+    requires { length to.old ≡ length row.now }
+    ensures { to.new ≡ row.now }
+{
+    for (c, sample) in to.iter_mut().enumerate() {
+        *sample = row[c];
+    }
+}
+
 /// The arriving row into its place.
 pub fn keep(samples: &mut [u16], row: &[u16], arrival: usize)
     requires { 32 * length row.now ≤ length samples.old }
     ensures { samples.new ≡ paste (arrival % 32 * length row.now) row.now samples.old }
 {
     let p = (arrival % 32) * row.len();
-    samples[p..p + row.len()].copy_from_slice(row);
+    copy(&mut samples[p..p + row.len()], row);
 }
 
 /// Row e at an arrival: the arriving row itself, or the one that its place holds.

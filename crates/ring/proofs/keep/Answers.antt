@@ -5,4 +5,4 @@ use Rattle.arith.proofs.Parts.{part_back}
 use Rattle.ring.proofs.keep.Goals as goal
 
 pub returns : goal.returns
-returns c = rw c.copy_from_slice.ensures.after (part_back _ _ c.args.samples.now c.args.row.now refl)
+returns c = rw c.copy.ensures (part_back _ _ c.args.samples.now c.args.row.now refl)
