@@ -4,8 +4,9 @@
 passes.py          the lowered form of the engines' crates, which `rt ci` and `rt lib` leave, after the fixtures, each of which must be refused
 passes.py FILE..   only these files of lowered form
 
-A loop of these crates counts as one over columns unless it is named below. Neither in it nor in anything that it calls, however far
-down, may a remainder or a division stand.
+A loop of these crates counts as one over columns unless it is named below, and so does a closure: what takes it is one of the iterators
+of std, whose loop calls it at each turn. Neither in it nor in anything that it calls, however far down, may a remainder or a division
+stand.
 """
 import glob
 import json
@@ -16,6 +17,8 @@ import sys
 CRATES = ["arith", "ring", "rule", "passes", "arrival", "engine", "machine", "scan", "levels", "histograms", "rank"]
 # loops over rectangles: each finds the rows that its edges reach, then runs passes
 OVER_RECTANGLES = {"engine::rows::values", "engine::rows::roll_back_first"}
+# what stands in the name of a closure, before that of the function that it is written in
+CLOSURE = "::fn::"
 ROOT = os.path.dirname(os.path.dirname(os.path.abspath(__file__)))
 # A body is a list in Polish order: how many parts follow each word, but for Switch, which has one for each arm and one for the rest.
 PARTS = {"Seq": 2, "If": 2, "Block": 1, "Loop": 1}
@@ -72,23 +75,29 @@ def calls(part):
     return {ref[0] for ref in under(part, "Fn")}
 
 
+def turns(name, body):
+    """The parts of a function that are done at each turn of a loop: its loops, or the whole of a closure."""
+    found = [("loop", loop) for loop in loops(body)]
+    return found + [("closure", body)] if CLOSURE in name else found
+
+
 def faults(functions, own, looping):
-    """The loops of these functions that divide, and how they come to it; the functions with loops are noted."""
+    """The loops and closures of these functions that divide, and how they come to it; the functions that have or are one are noted."""
     for name in own:
-        for loop in loops(functions[name]):
+        for kind, part in turns(name, functions[name]):
             looping.add(name)
             if name in OVER_RECTANGLES:
                 continue
-            if divides(loop):
-                yield f"{name}: a remainder or a division in a loop"
-            seen, todo = set(), calls(loop)
+            if divides(part):
+                yield f"{name}: a remainder or a division in a {kind}"
+            seen, todo = set(), calls(part)
             while todo:
                 callee = todo.pop()
                 if callee in seen or callee not in functions:
                     continue
                 seen.add(callee)
                 if divides(functions[callee]):
-                    yield f"{name}: a loop calls {callee}, which takes a remainder or divides"
+                    yield f"{name}: a {kind} calls {callee}, which takes a remainder or divides"
                 todo |= calls(functions[callee])
 
 
@@ -135,7 +144,7 @@ def main(files):
     if found:
         sys.exit(1)
     if not files:
-        print(f"passes: {len(looping - OVER_RECTANGLES)} functions with loops over columns, none divides")
+        print(f"passes: {len(looping - OVER_RECTANGLES)} functions with loops over columns or closures, none divides")
 
 
 main(sys.argv[1:])
