@@ -1,6 +1,6 @@
 -- A word that is read digit by digit.
 -- Assumes nothing.
-use Rattle.std.proofs.Common.{ℕ, zero, suc, ◌+◌, ◌-◌, ◌*◌, ◌≤◌, ◌<◌, min, arith, ◌≡◌, refl, sym, ap, subst, true, false, List, [], ◌∷◌, T, leb, leb→le, length, get_or, drop, drop_of_length-le, drop-cons, lt-ltb, le-ltb, Some, None}
+use Rattle.std.proofs.Common.{ℕ, suc, ◌+◌, ◌-◌, ◌*◌, ◌≤◌, ◌<◌, min, arith, ◌≡◌, refl, sym, ap, subst, true, false, List, [], ◌∷◌, T, leb, leb→le, length, get_or, drop, drop_of_length-le, drop-cons, lt-ltb, le-ltb, Some, None}
 use Rattle.std.proofs.Math.Facts.{and_yes}
 use Rattle.choicetext.specs.Numbers.{digit, all_digits, spells, number_most, number_of}
 

@@ -1,109 +1,84 @@
 //! The lines of a table's choices.
-ghost use Rattle.std.specs.Prelude.{◌≡◌, ◌<◌, ℕ, List, pos, neg_ℤ, Some};
-ghost use Rattle.text.specs.Text.{signed_cell};
+ghost use Rattle.std.specs.Prelude.{◌≡◌, ℕ, ◌+◌, ◌*◌, ◌≤◌, ◌<◌, false, length, get_or};
 ghost use Rattle.choices.specs.Choices.{listed};
-ghost use Rattle.choicetext.specs.Lines.{choice_line, shown_line, choice_text, choices_text};
+ghost use Rattle.text.specs.Text.{Put};
+ghost use Rattle.choicetext.specs.Lines.{choice_line, choice_text, choice_lines, choices_text};
 
+use crate::cells::{put_bytes, put_cell, put_less, put_three};
 use choices::{mark, with_drops};
 use figures::{Figures, measure};
 use layout::Table;
-use std::fmt;
 
-/// A number n, printed as -n and a space.
-#[derive(Clone, Copy)]
-struct Less(u64);
-
-impl fmt::Display for Less {
-    ghost output = { λ n. Some (signed_cell (neg_ℤ (pos n.0)) 32) };
-
-    fn fmt<W: fmt::Write>(&self, f: &mut fmt::Formatter<W>) -> fmt::Result {
-        if self.0 == 0 {
-            return write!(f, "0 ");
-        }
-        write!(f, "-{} ", self.0)
-    }
+/// The line of choice i, 169 bytes at most.
+fn put_line(out: &mut [u8], at: usize, i: usize, f: Figures) -> usize
+    requires { at + 169 ≤ length out.old }
+    ensures put { Put out.old at (choice_line i f) out.new result }
+    ensures upper_bound { result ≤ at + 169 }
+{
+    let a = put_three(out, at, (i / 81) as u64, (i / 9 % 9) as u64, (i % 9) as u64);
+    let a = put_three(out, a, f.column as u64, f.window as u64, f.sums);
+    let a = put_less(out, a, f.below);
+    put_cell(out, a, f.above, b'\n')
 }
 
-/// Choice i with its figures, printed as its line.
-#[derive(Clone, Copy)]
-struct ChoiceLine {
+/// The line of a choice that is listed, where both its bounds are within most.
+fn put_choice(
+    out: &mut [u8],
+    at: usize,
+    t: &Table,
+    width: usize,
+    most: u64,
     i: usize,
-    figures: Figures,
-}
-
-impl fmt::Display for ChoiceLine {
-    ghost output = { λ c. Some (choice_line c.i c.figures) };
-
-    fn fmt<W: fmt::Write>(&self, f: &mut fmt::Formatter<W>) -> fmt::Result {
-        let i = self.i;
-        let Figures {
-            column,
-            window,
-            sums,
-            below,
-            above,
-        } = self.figures;
-        write!(f, "{} {} {} ", i / 81, i / 9 % 9, i % 9)?;
-        write!(f, "{column} {window} {sums} ")?;
-        writeln!(f, "{}{above}", Less(below))
+    is_listed: bool,
+) -> usize
+    requires i_bound { (i < 972) × (is_listed ≡ listed t.now width i) }
+    requires at_in_bounds { at + 169 ≤ length out.old }
+    ensures put { Put out.old at (choice_text t.now width most i) out.new result }
+    ensures upper_bound { result ≤ at + 169 }
+{
+    if !is_listed {
+        return at;
     }
-}
-
-/// Choice i where it is shown, printed as its line, else as nothing.
-#[derive(Clone, Copy)]
-struct ShownLine {
-    i: usize,
-    figures: Option<Figures>,
-}
-
-impl fmt::Display for ShownLine {
-    ghost output = { λ c. Some (shown_line c.i c.figures) };
-
-    fn fmt<W: fmt::Write>(&self, f: &mut fmt::Formatter<W>) -> fmt::Result {
-        match self.figures {
-            Some(figures) => write!(f, "{}", ChoiceLine { i: self.i, figures }),
-            None => Ok(()),
-        }
+    let Some(f) = measure(&with_drops(t, i), width) else {
+        return at;
+    };
+    if most < f.below {
+        return at;
     }
-}
-
-/// A table at a width, printed as its listed choices whose bounds are within `most` pixels.
-#[derive(Clone, Copy)]
-pub struct Listing {
-    pub table: Table,
-    pub width: usize,
-    pub most: u64,
-}
-
-impl Listing {
-    /// The figures of choice i where its line is shown.
-    fn shown(&self, i: usize, is_listed: bool) -> Option<Figures>
-        requires { (i < 972) × (is_listed ≡ listed self.now.table self.now.width i) }
-        ensures { shown_line i result ≡ choice_text self.now.table self.now.width self.now.most i }
-    {
-        if !is_listed {
-            return None;
-        }
-        let figures = measure(&with_drops(&self.table, i), self.width)?;
-        if figures.below <= self.most && figures.above <= self.most {
-            Some(figures)
-        } else {
-            None
-        }
+    if most < f.above {
+        return at;
     }
+    put_line(out, at, i, f)
 }
 
-impl fmt::Display for Listing {
-    ghost output = { λ l. Some (choices_text l.table l.width l.most) };
-
-    fn fmt<W: fmt::Write>(&self, f: &mut fmt::Formatter<W>) -> fmt::Result {
-        let mut marks = [false; 972];
-        let n = mark(&self.table, self.width, &mut marks);
-        write!(f, "q1 q2 q3 column window sums low high\n")?;
-        for i in 0..n {
-            let figures = self.shown(i, marks[i]);
-            write!(f, "{}", ShownLine { i, figures })?;
-        }
-        Ok(())
+/// The lines of the first n choices.
+fn put_choices(
+    out: &mut [u8],
+    at: usize,
+    t: &Table,
+    width: usize,
+    most: u64,
+    marks: &[bool],
+    n: usize,
+) -> usize
+    requires n_bound { (n ≤ 972) × (n ≤ length marks.now) × (at + 169 * n ≤ length out.old) }
+    requires by_index { (i : ℕ) → i < n → get_or marks.now i false ≡ listed t.now width i }
+    ensures { Put out.old at (choice_lines t.now width most n) out.new result }
+{
+    let mut a = at;
+    for i in 0..n {
+        a = put_choice(out, a, t, width, most, i, marks[i]);
     }
+    a
+}
+
+/// The text of a table at a width, with the choices whose bounds are within most, from the start of out.
+pub fn list(t: Table, width: usize, most: u64, out: &mut [u8]) -> usize
+    requires { 165000 ≤ length out.old }
+    ensures { Put out.old 0 (choices_text t width most) out.new result }
+{
+    let mut marks = [false; 972];
+    let n = mark(&t, width, &mut marks);
+    let a = put_bytes(out, 0, b"q1 q2 q3 column window sums low high\n");
+    put_choices(out, a, &t, width, most, &marks, n)
 }

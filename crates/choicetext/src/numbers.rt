@@ -3,6 +3,8 @@ ghost use Rattle.std.specs.Prelude.{◌≡◌, ◌+◌, ◌-◌, ◌*◌, ◌≤
 ghost use Rattle.choicetext.specs.Numbers.{digit, number_most, number_of, no_number_text};
 ghost use Rattle.text.specs.Text.{Put};
 
+use crate::cells::put_bytes;
+
 /// 10^18: a number is held as it where it is larger.
 const NUMBER_MOST: u64 = 1000000000000000000;
 
@@ -46,16 +48,7 @@ pub fn no_most() -> u64
     NUMBER_MOST
 }
 
-/// Text for which there is room.
-fn put_bytes(out: &mut [u8], at: usize, text: &[u8]) -> usize
-    requires { at + length text.now ≤ length out.old }
-    ensures { Put out.old at text.now out.new result }
-{
-    text::put_bytes(out, at, text)
-}
-
-/// A word that is no number, and what it stands for. A word of the command line need be no text, so that no `Display` can print it, and a
-/// line that was allocated could fail.
+/// A word that is no number, and what it stands for.
 pub fn put_no_number(out: &mut [u8], what: &[u8], word: &[u8]) -> usize
     requires { length what.now + length word.now + 32 ≤ length out.old }
     ensures { Put out.old 0 (no_number_text what.now word.now) out.new result }

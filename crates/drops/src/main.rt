@@ -5,14 +5,11 @@
 
 ghost use Rattle.std.specs.Prelude.{◌≤◌, length};
 
-use choicetext::Listing;
-use faults::Fault;
-use layout::Question;
-use std::alloc::Global;
+use layout::{Question, Table};
 use std::env::Env;
 use std::io::{Read, Write};
 use std::rt::Files;
-use streams::{fail, print, refuse};
+use streams::{fail, put, refuse};
 
 /// Says that a word is no number.
 fn no_number<E: Write>(errors: &mut E, what: &[u8], word: &[u8])
@@ -52,10 +49,22 @@ fn number_word<R: Env, E: Write>(
     }
 }
 
+/// Prints the choices of a table.
+fn print<O: Write, E: Write>(
+    output: &mut O,
+    errors: &mut E,
+    table: Table,
+    width: usize,
+    most: u64,
+) {
+    let mut page = [0u8; 165000];
+    let end = choicetext::list(table, width, most, &mut page);
+    put(output, errors, &page[..end]);
+}
+
 /// Prints the choices of the table file that the first word names, or says why not.
 fn print_file<R: Files + Env, S: Read, O: Write, E: Write>(
     rt: &R,
-    alloc: Global,
     input: &mut S,
     output: &mut O,
     errors: &mut E,
@@ -69,17 +78,13 @@ fn print_file<R: Files + Env, S: Read, O: Write, E: Write>(
         return;
     }
     match table::load(&bytes[..from.end]) {
-        Err(refusal) => {
-            let fault = Fault {
-                place: refusal.place,
-                number: refusal.question.number(),
-            };
-            refuse(alloc, errors, &name[..from.name], fault);
-        }
-        Ok(table) => {
-            let listing = Listing { table, width, most };
-            print(alloc, output, errors, &listing);
-        }
+        Err(refusal) => refuse(
+            errors,
+            &name[..from.name],
+            refusal.place,
+            refusal.question.number(),
+        ),
+        Ok(table) => print(output, errors, table, width, most),
     }
 }
 
@@ -96,16 +101,11 @@ fn main(rt: HostRuntime) {
         return;
     };
     if !rule::width_good(width as usize) {
-        let fault = Fault {
-            place: 0,
-            number: Question::Width.number(),
-        };
-        refuse(rt.alloc(), &mut errors, b"drops", fault);
+        refuse(&mut errors, b"drops", 0, Question::Width.number());
         return;
     }
     print_file(
         &rt,
-        rt.alloc(),
         &mut rt.stdin(),
         &mut rt.stdout(),
         &mut errors,

@@ -1,7 +1,9 @@
--- Texts joined, and a few as they are read.
+-- Texts put one after the other, and a few as they are read.
 -- Assumes nothing.
 use Rattle.std.proofs.Common.{◌≡◌, ℕ, List, ◌++◌, refl, append_assoc}
 use Rattle.std.specs.Fmt.{digits}
+use Rattle.text.specs.Text.{Put}
+use Rattle.text.proofs.Puts.{put_then}
 use Rattle.text.specs.Ascii.{ascii, line_length, after_line, line, lines}
 use Rattle.refusals.specs.Sentences.{sentences, refusal_text}
 use Rattle.pgm.specs.declared.Entry.TheVariants.{Width}
@@ -9,12 +11,10 @@ use Rattle.layout.specs.declared.asking.Question.TheVariants.{Bits}
 use Rattle.filtering.specs.declared.Fault.TheVariants.{Table, Cut, Bad}
 use Rattle.filtering.specs.Messages.{fault_text}
 
--- parts joined from the right are the parts joined from the left
-pub five : (a b c d e : List ℕ) → a ++ (b ++ (c ++ (d ++ e))) ≡ a ++ b ++ c ++ d ++ e
-five a b c d e = simp append_assoc
-
-pub seven : (a b c d e f g : List ℕ) → a ++ (b ++ (c ++ (d ++ (e ++ (f ++ g))))) ≡ a ++ b ++ c ++ d ++ e ++ f ++ g
-seven a b c d e f g = simp append_assoc
+-- a text, words and the number after them
+pub put_joined :
+    {o o1 o2 s : List ℕ} {a b c : ℕ} (w n : List ℕ) → Put o a s o1 b → Put o1 b (w ++ n) o2 c → Put o a (s ++ w ++ n) o2 c
+put_joined {s} w n p q = rw (append_assoc s w n) (put_then p q)
 
 -- a table whose b is wrong; a scan that ends in row 7; a header with no width
 table_3 : fault_text (Table Bits) ≡ ascii "table refused, 3: b is not from 1 to 12\n"

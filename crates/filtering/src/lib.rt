@@ -3,7 +3,7 @@
 //! or writes; the program moves the bytes between these calls.
 //!
 //!   table_fault, judge, row_fault  the table, the scan and its rows as they are taken, or what is wrong with them
-//!   Fault, answer                  the line for a fault, printed, and the answers to --help, --version and a wrong command line
+//!   put_fault, answer              the line for a fault, and the answers to --help, --version and a wrong command line
 //!   read_most, whole_part          how many bytes to read, and how many samples go to the engine
 //!   rows_left, packed, forward     what is still to come, what came out, and what is moved to the start of the store
 //!   centred                        the edges of a window of so many rows or columns around its place
@@ -18,7 +18,7 @@ pub use judging::{judge, row_fault, table_fault};
 use layout::Question;
 pub use moving::{forward, packed, read_most, rows_left, whole_part};
 use pgm::Entry;
-pub use saying::answer;
+pub use saying::{answer, put_fault};
 pub use window::centred;
 
 /// The edges of a window along rows or columns.

@@ -1,48 +1,114 @@
 //! What is said: a line for a fault, and the answers to --help, --version and a command line that is none.
-ghost use Rattle.std.specs.Prelude.{◌≡◌, Some};
+ghost use Rattle.std.specs.Prelude.{◌≡◌, ◌++◌, ◌+◌, ◌≤◌, length};
+ghost use Rattle.std.specs.Fmt.{decimal};
+ghost use Rattle.text.specs.Text.{Put};
+ghost use Rattle.refusals.specs.Sentences.{refusal_text};
 ghost use Rattle.filtering.specs.Messages.{fault_text, answer_text};
 
 use crate::Fault;
 use commands::Command;
 use refusals::sentence;
-use std::fmt;
+use text::{put_bytes, put_number};
 
-impl fmt::Display for Fault {
-    ghost output = { λ x. Some (fault_text x) };
+/// Words for which there is room.
+fn put_words(out: &mut [u8], at: usize, words: &[u8]) -> usize
+    requires { at + length words.now ≤ length out.old }
+    ensures { Put out.old at words.now out.new result }
+{
+    put_bytes(out, at, words)
+}
 
-    fn fmt<W: fmt::Write>(&self, f: &mut fmt::Formatter<W>) -> fmt::Result {
-        match *self {
-            Fault::NoTable => writeln!(f, "table refused, 1: the file is empty"),
-            Fault::Table(question) => {
-                let number = question.number();
-                writeln!(f, "table refused, {number}: {}", sentence(number))
-            }
-            Fault::Empty => writeln!(f, "the input is empty"),
-            Fault::CutHeader => writeln!(f, "the header is cut off, or longer than 4096 bytes"),
-            Fault::Foreign => writeln!(
-                f,
-                "not a binary PGM: it does not begin with P5 and white space"
-            ),
-            Fault::Bad(entry, at) => writeln!(f, "header, byte {at}: the {entry} is no number"),
-            Fault::Unended(at) => writeln!(f, "header, byte {at}: no white space after the maxval"),
-            Fault::Large(entry, at) => writeln!(f, "header, byte {at}: the {entry} is above 65535"),
-            Fault::NoMaxval => writeln!(f, "header: the maxval is 0"),
-            Fault::Maxval(n) => writeln!(f, "header: the maxval {n} is above 4095"),
-            Fault::Bits(n, b) => writeln!(f, "header: the maxval {n} needs more than {b} bits"),
-            Fault::Width(n) => writeln!(f, "header: the width {n} is not from 1 to 1024"),
-            Fault::Cut(row, got, need) => writeln!(
-                f,
-                "cut off in row {row} after {got} of {need} bytes"
-            ),
-            Fault::Sample(row, column, n) => writeln!(
-                f,
-                "row {row}, column {column}: the sample is above the maxval {n}"
-            ),
-            Fault::Engine(number, place) => writeln!(
-                f,
-                "the engine refused, {number}, place {place}: {}",
-                sentence(number)
-            ),
+/// Words and the number after them, for which there is room.
+fn put_count(out: &mut [u8], at: usize, words: &[u8], n: u64) -> usize
+    requires { at + length words.now + 20 ≤ length out.old }
+    ensures put { Put out.old at (words.now ++ decimal n) out.new result }
+    ensures upper_bound { result ≤ at + length words.now + 20 }
+{
+    let at = put_words(out, at, words);
+    put_number(out, at, n)
+}
+
+/// The words for a refusal's number, for which there is room.
+fn put_sentence(out: &mut [u8], at: usize, number: u32) -> usize
+    requires { at + 100 ≤ length out.old }
+    ensures put { Put out.old at (refusal_text number) out.new result }
+    ensures upper_bound { result ≤ at + 100 }
+{
+    put_bytes(out, at, sentence(number).as_bytes())
+}
+
+/// Puts what is said of a fault at the start of out, and answers its length.
+pub fn put_fault(fault: Fault, out: &mut [u8; 4096]) -> usize
+    ensures { Put out.old 0 (fault_text fault) out.new result }
+{
+    match fault {
+        Fault::NoTable => put_words(out, 0, b"table refused, 1: the file is empty\n"),
+        Fault::Table(question) => {
+            let number = question.number();
+            let a = put_count(out, 0, b"table refused, ", u64::from(number));
+            let a = put_words(out, a, b": ");
+            let a = put_sentence(out, a, number);
+            put_words(out, a, b"\n")
+        }
+        Fault::Empty => put_words(out, 0, b"the input is empty\n"),
+        Fault::CutHeader => put_words(
+            out,
+            0,
+            b"the header is cut off, or longer than 4096 bytes\n",
+        ),
+        Fault::Foreign => put_words(
+            out,
+            0,
+            b"not a binary PGM: it does not begin with P5 and white space\n",
+        ),
+        Fault::Bad(entry, at) => {
+            let a = put_count(out, 0, b"header, byte ", at as u64);
+            let a = put_words(out, a, b": the ");
+            let a = put_words(out, a, entry.name().as_bytes());
+            put_words(out, a, b" is no number\n")
+        }
+        Fault::Unended(at) => {
+            let a = put_count(out, 0, b"header, byte ", at as u64);
+            put_words(out, a, b": no white space after the maxval\n")
+        }
+        Fault::Large(entry, at) => {
+            let a = put_count(out, 0, b"header, byte ", at as u64);
+            let a = put_words(out, a, b": the ");
+            let a = put_words(out, a, entry.name().as_bytes());
+            put_words(out, a, b" is above 65535\n")
+        }
+        Fault::NoMaxval => put_words(out, 0, b"header: the maxval is 0\n"),
+        Fault::Maxval(n) => {
+            let a = put_count(out, 0, b"header: the maxval ", u64::from(n));
+            put_words(out, a, b" is above 4095\n")
+        }
+        Fault::Bits(n, b) => {
+            let a = put_count(out, 0, b"header: the maxval ", u64::from(n));
+            let a = put_count(out, a, b" needs more than ", u64::from(b));
+            put_words(out, a, b" bits\n")
+        }
+        Fault::Width(n) => {
+            let a = put_count(out, 0, b"header: the width ", u64::from(n));
+            put_words(out, a, b" is not from 1 to 1024\n")
+        }
+        Fault::Cut(row, got, need) => {
+            let a = put_count(out, 0, b"cut off in row ", u64::from(row));
+            let a = put_count(out, a, b" after ", got as u64);
+            let a = put_count(out, a, b" of ", u64::from(need));
+            put_words(out, a, b" bytes\n")
+        }
+        Fault::Sample(row, column, n) => {
+            let a = put_count(out, 0, b"row ", u64::from(row));
+            let a = put_count(out, a, b", column ", column as u64);
+            let a = put_count(out, a, b": the sample is above the maxval ", u64::from(n));
+            put_words(out, a, b"\n")
+        }
+        Fault::Engine(number, place) => {
+            let a = put_count(out, 0, b"the engine refused, ", u64::from(number));
+            let a = put_count(out, a, b", place ", u64::from(place));
+            let a = put_words(out, a, b": ");
+            let a = put_sentence(out, a, number);
+            put_words(out, a, b"\n")
         }
     }
 }

@@ -3,9 +3,10 @@
 //! listed.
 #![tactic(auto)]
 
+mod cells;
 mod lines;
 
-use streams::{fail, gather, print};
+use streams::{fail, gather, put};
 
 fn main(rt: HostRuntime) {
     let mut errors = rt.stderr();
@@ -15,6 +16,7 @@ fn main(rt: HostRuntime) {
     if let Some(why) = &got.failed {
         fail(&mut errors, b"standard input", why);
     }
-    let listing = lines::list(&input[..got.end]);
-    print(rt.alloc(), &mut rt.stdout(), &mut errors, &listing);
+    let mut page = [0u8; 4096];
+    let end = lines::list(&input[..got.end], &mut page);
+    put(&mut rt.stdout(), &mut errors, &page[..end]);
 }

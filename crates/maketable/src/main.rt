@@ -2,31 +2,17 @@
 //! that cannot be read, is a line on standard error, and nothing is written.
 #![tactic(auto)]
 
-use faults::Fault;
-use std::alloc::Global;
 use std::io::Write;
 use streams::{put, refuse};
 
 /// Makes the table file of this text. The longest has 153 bytes.
-fn make<O: Write, E: Write>(
-    alloc: Global,
-    output: &mut O,
-    errors: &mut E,
-    text: &[u8],
-    name: &[u8],
-) {
+fn make<O: Write, E: Write>(output: &mut O, errors: &mut E, text: &[u8], name: &[u8]) {
     let mut page = [0u8; 153];
     match making::make(text, &mut page) {
         Ok(n) => {
             put(output, errors, &page[..n]);
         }
-        Err(why) => {
-            let fault = Fault {
-                place: why.place(),
-                number: why.number(),
-            };
-            refuse(alloc, errors, name, fault);
-        }
+        Err(why) => refuse(errors, name, why.place(), why.number()),
     }
 }
 
@@ -50,7 +36,6 @@ fn main(rt: HostRuntime) {
         return;
     }
     make(
-        rt.alloc(),
         &mut rt.stdout(),
         &mut errors,
         &text[..from.end],

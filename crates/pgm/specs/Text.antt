@@ -1,6 +1,6 @@
 -- A row of pixels as a line of decimal numbers, and the header of the picture that goes out.
 -- Assumes nothing.
-use Rattle.std.specs.Prelude.{ℕ, zero, suc, cond, List, [], ◌∷◌, ◌++◌, eqb, length, get_or, codes, ℤ, pos}
+use Rattle.std.specs.Prelude.{ℕ, zero, suc, ◌*◌, cond, List, [], ◌∷◌, ◌++◌, leb, eqb, length, get_or, drop, codes, ℤ, pos}
 use Rattle.text.specs.Text.{cell, signed_cell}
 use Rattle.pgm.specs.declared.Entry.{Entry}
 use Rattle.pgm.specs.declared.Entry.TheVariants.{Width, Height, Maxval}
@@ -27,3 +27,11 @@ cells n zs (suc k) = cells n zs k ++ signed_cell (get_or zs k (pos 0)) (after (s
 -- a row of pixels as decimal numbers, with single spaces between and a line feed after the last
 unfoldable pub line_text : List ℤ → List ℕ
 line_text zs = cells (length zs) zs (length zs)
+
+-- how many bytes are put: the line where the output has 22 bytes for each pixel, else none
+unfoldable pub line_count : List ℤ → (places : ℕ) → ℕ
+line_count zs places = cond (leb (22 * length zs) places) (length (line_text zs)) 0
+
+-- the output with the line at its start, where it is put
+unfoldable pub line_out : List ℤ → List ℕ → List ℕ
+line_out zs out = cond (leb (22 * length zs) (length out)) (line_text zs ++ drop (length (line_text zs)) out) out

@@ -5,8 +5,8 @@
 //!   decode         the samples of a row, and how many
 //!   encode         a row of the 16-bit picture, two bytes a pixel, and how many pixels
 //!   encode_levels  a row of levels, a byte each, and how many
-//!   Line           a row of pixels, printed as decimal numbers
-//!   Head           the header of the picture, printed
+//!   line           a row of pixels as decimal numbers, and the length of the text
+//!   head           the header of the picture, and its length
 //!   number         the number that begins at a place, 65,536 where it is larger, and where its digits end
 #![tactic(auto)]
 
@@ -17,7 +17,7 @@ mod reading;
 mod shades;
 mod writing;
 
-ghost use Rattle.std.specs.Prelude.{Some};
+ghost use Rattle.std.specs.Prelude.{◌≡◌};
 ghost use Rattle.pgm.specs.Text.{entry_name};
 
 pub use levels::encode_levels;
@@ -25,10 +25,9 @@ pub use lexing::{Digits, number};
 pub use parsing::header;
 pub use reading::decode;
 pub use shades::encode;
-use std::fmt;
-pub use writing::{Head, Line};
+pub use writing::{head, line};
 
-/// The numbers of a header, in their order; printed, one is its name.
+/// The numbers of a header, in their order.
 #[derive(Clone, Copy, Debug, PartialEq, Eq)]
 pub enum Entry {
     Width,
@@ -36,14 +35,15 @@ pub enum Entry {
     Maxval,
 }
 
-impl fmt::Display for Entry {
-    ghost output = { λ e. Some (entry_name e) };
-
-    fn fmt<W: fmt::Write>(&self, f: &mut fmt::Formatter<W>) -> fmt::Result {
+impl Entry {
+    /// Its name.
+    pub fn name(self) -> &'static str
+        ensures { result.now ≡ entry_name self }
+    {
         match self {
-            Entry::Width => write!(f, "width"),
-            Entry::Height => write!(f, "height"),
-            Entry::Maxval => write!(f, "maxval"),
+            Entry::Width => "width",
+            Entry::Height => "height",
+            Entry::Maxval => "maxval",
         }
     }
 }

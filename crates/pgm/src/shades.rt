@@ -1,5 +1,5 @@
 //! The 16-bit picture of filtered pixels.
-ghost use Rattle.std.specs.Prelude.{◌≡◌, true, ◌++◌, ◌*◌, ◌≤◌, ◌<◌, length, get_or, drop, pos};
+ghost use Rattle.std.specs.Prelude.{◌≡◌, true, ◌++◌, ◌+◌, ◌-◌, ◌*◌, ◌^◌, ◌≤◌, ◌<◌, length, get_or, drop, pos};
 ghost use Rattle.arith.specs.Tab.{grid};
 ghost use Rattle.pgm.specs.Shade.{shade, byte_of, word_good, encoded_count, encoded};
 
@@ -13,14 +13,13 @@ fn word_good(w: u8) -> bool
     (8..=32).contains(&w)
 }
 
-/// The sample of a pixel: how far it is above the smallest of w bits, less the low bits that 16 do not hold.
-fn shade(z: i32, w: u8) -> u16
-    requires { word_good w ≡ true }
+/// The sample of a pixel: how far it is above the smallest of w bits, `floor` - 2^31, less the low bits that 16 do not hold.
+fn shade(z: i32, w: u8, floor: u32, low: u8) -> u16
+    requires { (floor + 2 ^ (w - 1) ≡ 2147483648) × (low ≡ w - 16) × (w ≤ 32) }
     ensures { result ≡ shade w z }
 {
-    let floor = 2147483648 - (1u64 << (w - 1));
-    let raised = biased_long(z).saturating_sub(floor);
-    (raised >> w.saturating_sub(16)).min(65535) as u16
+    let raised = (biased_long(z) as u32).saturating_sub(floor);
+    (raised >> low).min(65535) as u16
 }
 
 /// The two bytes of each pixel.
@@ -29,10 +28,12 @@ fn put(pixels: &[i32], w: u8, out: &mut [u8])
     requires room { length pixels.now * 2 ≤ length out.old }
     ensures { out.new ≡ grid (length pixels.now) 2 (λ k. byte_of (shade w (get_or pixels.now k (pos 0)))) ++ drop (length pixels.now * 2) out.old }
 {
+    let floor = 2147483648 - (1u32 << (w - 1));
+    let low = w.saturating_sub(16);
     for (k, pixel) in pixels.iter().enumerate() {
-        let [high, low] = shade(*pixel, w).to_be_bytes();
-        out[k * 2] = high;
-        out[k * 2 + 1] = low;
+        let [first, second] = shade(*pixel, w, floor, low).to_be_bytes();
+        out[k * 2] = first;
+        out[k * 2 + 1] = second;
     }
 }
 

@@ -1,50 +1,52 @@
 //! Text that goes out: the header of a picture, and a row of pixels in decimal.
-ghost use Rattle.std.specs.Prelude.{◌≡◌, ◌∷◌, [], Some};
-ghost use Rattle.pgm.specs.Text.{head_text, after, line_text};
+ghost use Rattle.std.specs.Prelude.{◌≡◌, ◌++◌, ◌*◌, ◌≤◌, length, drop};
+ghost use Rattle.text.specs.Text.{Put};
+ghost use Rattle.pgm.specs.Text.{head_text, after, line_text, line_count, line_out};
 
-use std::fmt;
+use text::{put_bytes, put_cell, put_signed};
 
-/// The header of a picture.
-#[derive(Clone, Copy, Debug, PartialEq, Eq)]
-pub struct Head {
-    pub width: u32,
-    pub height: u32,
-    pub maxval: u32,
-}
-
-impl fmt::Display for Head {
-    ghost output = { λ h. Some (head_text h.width h.height h.maxval) };
-
-    fn fmt<W: fmt::Write>(&self, f: &mut fmt::Formatter<W>) -> fmt::Result {
-        let Head {
-            width,
-            height,
-            maxval,
-        } = *self;
-        write!(f, "P5\n{width} {height}\n{maxval}\n")
-    }
-}
-
-/// What stands after pixel k of n, counted from 1.
-#[tactic(auto, unfolding(crate::specs::Text::after))]
-fn after(k: usize, n: usize) -> &'static str
-    ensures { result.now ≡ after k n ∷ [] }
+/// Puts the header of a picture at the start of out, and answers its length.
+pub fn head(width: u32, height: u32, maxval: u32, out: &mut [u8; 66]) -> usize
+    ensures value { result ≡ length (head_text width height maxval) }
+    ensures out_after { out.new ≡ head_text width height maxval ++ drop (length (head_text width height maxval)) out.old }
+    ensures upper_bound { result ≤ length out.new }
 {
-    if k == n { "\n" } else { " " }
+    let a = put_bytes(out, 0, b"P5\n");
+    let a = put_cell(out, a, width as u64, b' ');
+    let a = put_cell(out, a, height as u64, b'\n');
+    put_cell(out, a, maxval as u64, b'\n')
 }
 
-/// A row of pixels as a line of decimal numbers, with single spaces between.
-#[derive(Clone, Copy, Debug)]
-pub struct Line<'a>(pub &'a [i32]);
+/// The byte after pixel k of n, counted from 1.
+#[tactic(auto, unfolding(crate::specs::Text::after))]
+fn after(k: usize, n: usize) -> u8
+    ensures { result ≡ after k n }
+{
+    if k == n { b'\n' } else { b' ' }
+}
 
-impl fmt::Display for Line<'_> {
-    ghost output = { λ l. Some (line_text l.0.now) };
-
-    fn fmt<W: fmt::Write>(&self, f: &mut fmt::Formatter<W>) -> fmt::Result {
-        let n = self.0.len();
-        for (k, &pixel) in self.0.iter().enumerate() {
-            write!(f, "{pixel}{}", after(k + 1, n))?;
-        }
-        Ok(())
+/// A line for which there is room.
+fn put_line(pixels: &[i32], out: &mut [u8]) -> usize
+    requires { 22 * length pixels.now ≤ length out.old }
+    ensures { Put out.old 0 (line_text pixels.now) out.new result }
+{
+    let mut at = 0;
+    for (k, &pixel) in pixels.iter().enumerate() {
+        at = put_signed(out, at, pixel, after(k + 1, pixels.len()));
     }
+    at
+}
+
+/// Puts a row of pixels as a line of decimal numbers at the start of out, and answers its length; nothing and 0 where out has
+/// not 22 bytes for each pixel.
+#[tactic(auto, unfolding(crate::specs::Text::line_count, crate::specs::Text::line_out))]
+pub fn line(pixels: &[i32], out: &mut [u8]) -> usize
+    ensures value { result ≡ line_count pixels.now (length out.old) }
+    ensures out_after { out.new ≡ line_out pixels.now out.old }
+    ensures upper_bound { result ≤ length out.old }
+{
+    if out.len() / 22 < pixels.len() {
+        return 0;
+    }
+    put_line(pixels, out)
 }

@@ -1,8 +1,14 @@
 //! The words for a refusal's number, once for every program.
+//!
+//!   sentence     what a number means
+//!   put_refusal  the same, put into a buffer
 #![tactic(auto)]
 
 ghost use Rattle.std.specs.Prelude.{◌≡◌};
+ghost use Rattle.text.specs.Text.{put_text, put_end};
 ghost use Rattle.refusals.specs.Sentences.{refusal_text};
+
+use text::put_bytes;
 
 /// What a number means: its sentence; nothing for 0, which is no refusal, and for a number that no call gives.
 #[tactic(auto, unfolding(crate::specs::Sentences::refusal_text, crate::specs::Sentences::sentences, text::specs::Ascii::line, text::specs::Ascii::lines, text::specs::Ascii::ascii, text::specs::Ascii::after_line, text::specs::Ascii::line_length))]
@@ -39,4 +45,12 @@ pub fn sentence(number: u32) -> &'static str
         25 => "one of the two tables drops bits",
         _ => "",
     }
+}
+
+/// Puts what a number means into a buffer, from a place on, and answers the place past it; nothing where there is no room.
+pub fn put_refusal(out: &mut [u8], at: usize, number: u32) -> usize
+    ensures value { result ≡ put_end out.old at (refusal_text number) }
+    ensures out_after { out.new ≡ put_text out.old at (refusal_text number) }
+{
+    put_bytes(out, at, sentence(number).as_bytes())
 }

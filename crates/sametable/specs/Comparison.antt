@@ -4,7 +4,6 @@ use Rattle.std.specs.Prelude.{ℕ, ◌<◌, ◌≡◌, cond, List, [], ◌∷◌
 use Rattle.arith.specs.Part.{pos_part}
 use Rattle.arith.specs.Tab.{tab}
 use Rattle.layout.specs.declared.Table.{Table}
-use Rattle.layout.specs.Questions.{number_of}
 use Rattle.layout.specs.Contents.{table_of}
 use Rattle.layout.specs.Answers.{Said}
 use Rattle.grid.specs.Grid.{offset}
@@ -13,8 +12,6 @@ use Rattle.text.specs.Text.{cell, signed_cell}
 use Rattle.text.specs.Ascii.{ascii}
 use Rattle.refusals.specs.Sentences.{refusal_text}
 use Rattle.same.specs.Same.{weight_at, same_of}
-use Rattle.sametable.specs.declared.answers.Comparison.{Comparison}
-use Rattle.sametable.specs.declared.answers.Comparison.TheVariants.{FirstRefused, SecondRefused, Refused, Same, Differ}
 
 -- ---- weights by offset
 
@@ -65,24 +62,3 @@ second_text t (loaded c) = compared_text t (table_of c)
 unfoldable pub comparison_of : (first second : Outcome) → List ℕ
 comparison_of (refused number place) second = refused_text (ascii "first table refused, ") number
 comparison_of (loaded c) second = second_text (table_of c) second
-
--- ---- what is printed of an answer
-
--- a number and the words for it
-unfoldable pub words_text : (number : ℕ) → List ℕ
-words_text number = cell number 58 ++ (32 ∷ []) ++ refusal_text number
-
--- an offset and two weights
-unfoldable pub weights_text : (row col one other : ℤ) → List ℕ
-weights_text row col one other =
-    (ascii "differ at row " ++ signed_cell row 44)
-    ++ (ascii " column " ++ signed_cell col 58)
-    ++ (ascii " " ++ signed_cell one 32)
-    ++ (ascii "and " ++ signed_cell other 10)
-
-abbrev pub printed : Comparison → List ℕ
-printed (FirstRefused r) = refused_text (ascii "first table refused, ") (number_of r.question)
-printed (SecondRefused r) = refused_text (ascii "second table refused, ") (number_of r.question)
-printed (Refused r) = refused_text (ascii "refused, ") (number_of r.question)
-printed Same = ascii "same\n"
-printed (Differ o one other) = weights_text o.row o.col one other

@@ -10,7 +10,7 @@ ghost use Rattle.streams.specs.Streams.{IsPrefixLen};
 use std::env::Env;
 use std::io::Write;
 use std::rt::Files;
-use streams::{Got, fail, print};
+use streams::{Got, fail, put};
 
 /// The bytes of the table file that word i names, no more than loading needs.
 fn table_file<R: Files + Env, E: Write>(
@@ -50,6 +50,7 @@ fn main(rt: HostRuntime) {
     if b.failed.is_some() {
         return;
     }
-    let comparison = answers::compare(&first[..a.end], &second[..b.end]);
-    print(rt.alloc(), &mut rt.stdout(), &mut errors, &comparison);
+    let mut page = [0u8; 4096];
+    let end = answers::compare(&first[..a.end], &second[..b.end], &mut page);
+    put(&mut rt.stdout(), &mut errors, &page[..end]);
 }

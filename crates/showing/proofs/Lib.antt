@@ -1,3 +1,3 @@
-pub mod Written
+pub mod Rects
 pub mod Parts
 pub mod Answers

@@ -2,30 +2,17 @@
 //! cannot be read, is a line on standard error, and nothing is shown.
 #![tactic(auto)]
 
-use faults::Fault;
-use std::alloc::Global;
 use std::io::Write;
-use streams::{print, refuse};
+use streams::{put, refuse};
 
 /// Shows the table file of these bytes.
-fn show<O: Write, E: Write>(
-    alloc: Global,
-    output: &mut O,
-    errors: &mut E,
-    bytes: &[u8],
-    name: &[u8],
-) {
-    match showing::show(bytes) {
-        Ok(shown) => {
-            print(alloc, output, errors, &shown);
+fn show<O: Write, E: Write>(output: &mut O, errors: &mut E, bytes: &[u8], name: &[u8]) {
+    let mut page = [0u8; 4096];
+    match showing::show(bytes, &mut page) {
+        Ok(n) => {
+            put(output, errors, &page[..n]);
         }
-        Err(refusal) => {
-            let fault = Fault {
-                place: refusal.place,
-                number: refusal.question.number(),
-            };
-            refuse(alloc, errors, name, fault);
-        }
+        Err(why) => refuse(errors, name, why.place, why.question.number()),
     }
 }
 
@@ -49,7 +36,6 @@ fn main(rt: HostRuntime) {
         return;
     }
     show(
-        rt.alloc(),
         &mut rt.stdout(),
         &mut errors,
         &bytes[..from.end],

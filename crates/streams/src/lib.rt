@@ -1,5 +1,5 @@
-// Inner: reading and writing for the programs. A read that fails is told apart from the end of the input, and output that cannot
-// be written is said on standard error.
+//! Inner: reading and writing for the programs. A read that fails is told apart from the end of the input, and output that cannot
+//! be written is said on standard error.
 #![tactic(auto)]
 
 ghost use Rattle.std.specs.Prelude.{◌≡◌, ◌≤◌, length};
@@ -11,13 +11,12 @@ ghost use Rattle.streams.specs.Streams.{IsPrefixLen};
 mod cause;
 
 pub use cause::fail;
-use faults::{Fault, message};
-use std::alloc::Global;
+use faults::put_fault;
 use std::env::{Env, FillError};
 use std::fs::File;
+use std::io;
 use std::io::{ErrorKind, Read, Write};
 use std::rt::Files;
-use std::{fmt, io};
 use text::put_bytes;
 
 // The system's numbers for the errors of a word that is not there, and of one that does not fit.
@@ -232,31 +231,11 @@ pub fn input<R: Files + Env, S: Read, E: Write>(
     }
 }
 
-/// Says on standard error that the input of this name is refused, and why.
-pub fn refuse<E: Write>(alloc: Global, errors: &mut E, name: &[u8], fault: Fault) {
-    if let Ok(text) = message(alloc, name, fault) {
-        let _ = errors.write_all(&text);
-        return;
-    }
-    let _ = errors.write_all(name);
-    let _ = write!(errors, "{fault}");
-}
-
-/// Prints to standard output, in one write. Answers whether that went well, and says so on standard error where it did not.
-pub fn print<O: Write, E: Write, T: fmt::Display>(
-    alloc: Global,
-    output: &mut O,
-    errors: &mut E,
-    value: &T,
-) -> bool {
-    match format!(in alloc; "{value}") {
-        Ok(text) => put(output, errors, text.as_bytes()),
-        Err(_) => {
-            let why = io::Error::from(ErrorKind::OutOfMemory);
-            fail(errors, b"standard output", &why);
-            false
-        }
-    }
+/// Says on standard error that the input of this name is refused with this number, at this line of it, or at none where it is 0.
+pub fn refuse<E: Write>(errors: &mut E, name: &[u8], place: u32, number: u32) {
+    let mut text = [0u8; 8192];
+    let end = put_fault(&mut text, name, place, number);
+    let _ = errors.write_all(&text[..end]);
 }
 
 // Writes to standard output. Answers whether that went well, and says so on standard error where it did not.

@@ -1,12 +1,13 @@
 -- What the calls answer lies within the stores.
 -- Assumes nothing.
 use Prim.Native.Nat.{ℕ, zero, suc, ◌*◌, ◌/◌, ◌≤◌, min}
+use lib.Dec.{leb}
 use native.Mathlib.Omega.{arith}
 use native.Mathlib.Nat.{div-mul-le_self, mul-le-mul}
 use mathlib.Core.Path.{◌≡◌}
 use mathlib.Core.Bool.{Bool, true, false, cond}
 use Rattle.arith.specs.First.{first_not}
-use Rattle.pgm.specs.Raster.{decoded_count}
+use Rattle.pgm.specs.Raster.{sample_bytes, decoded_count}
 use Rattle.filtering.specs.Moves.{packed_count}
 
 pub decoded_in : (n maxval bytes places : ℕ) → n ≡ decoded_count maxval bytes places → n ≤ places
@@ -34,3 +35,13 @@ packed_within rows l places =
     let d = div-mul-le_self places l in
     let m = mul-le-mul {n₁ = min rows (places / l)} {m₁ = l} {n₂ = places / l} {m₂ = l} (omega arith) (omega arith) in
     omega arith
+
+-- so many rows' bytes have so many rows' samples at most
+pub decoded_few :
+    (n maxval bytes places k width : ℕ) → n ≡ decoded_count maxval bytes places → bytes ≤ k * (width * sample_bytes maxval) → n ≤ k * width
+unfolding decoded_count sample_bytes
+decoded_few n maxval bytes places k width e h = go (leb maxval 255) e h
+  where
+    go : (t : Bool) → n ≡ min (bytes / cond t 1 2) places → bytes ≤ k * (width * cond t 1 2) → n ≤ k * width
+    go true e h = omega arith
+    go false e h = omega arith

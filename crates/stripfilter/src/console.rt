@@ -1,10 +1,8 @@
-//! The program's streams: what is read, what is written, and where the lines on what is wrong go; and the memory for what is written.
-use std::alloc::Global;
+//! The program's streams: what is read, what is written, and where the lines on what is wrong go.
 
 #[derive(Drop)]
 pub struct Console<S, O, E> {
     pub input: S,
     pub output: O,
     pub errors: E,
-    pub alloc: Global,
 }

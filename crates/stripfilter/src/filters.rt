@@ -1,31 +1,11 @@
 //! The two filters, each with the stores that it carries on from row to row.
-ghost use Rattle.std.specs.Prelude.{◌<◌, ◌≤◌};
+ghost use Rattle.std.specs.Prelude.{ℕ, ◌*◌, ◌^◌, ◌<◌, ◌≤◌, length};
 
 use commands::Ranking;
 use filtering::{Fault, Job, centred, row_fault};
 use layout::{Answer, Closing, Table};
 use rank::{RankScan, Window};
 use scan::Scan;
-use std::alloc::{AllocError, Global};
-
-/// Why a filter doesn't start: no memory for its stores, or a refusal.
-#[derive(Drop)]
-pub enum Unstarted {
-    Memory(AllocError),
-    Refused(Fault),
-}
-
-impl From<AllocError> for Unstarted {
-    fn from(why: AllocError) -> Unstarted {
-        Unstarted::Memory(why)
-    }
-}
-
-impl From<Fault> for Unstarted {
-    fn from(fault: Fault) -> Unstarted {
-        Unstarted::Refused(fault)
-    }
-}
 
 /// What came of rows that were handed over: how many filtered rows are out, and what is refused.
 #[derive(Clone, Copy)]
@@ -34,19 +14,23 @@ pub struct Taken {
     pub verdict: Result<(), Fault>,
 }
 
-/// A filter that a scan runs through.
+/// A filter that a scan runs through, which takes at most `most` rows at a time.
 pub trait Filter {
+    ghost most: { ℕ };
+
     /// How many of the rows that are left, one or more, are to be read at a time.
     fn at_once(left: u32) -> u32
         requires some { 0 < left }
         ensures some { 0 < result }
-        ensures within { result ≤ left };
+        ensures within { result ≤ left }
+        ensures few { result ≤ most };
 
     /// How many rows were taken.
     fn rows(&self) -> u32;
 
     /// Takes whole rows of samples, and puts the filtered rows that are out into the output, one after the other.
-    fn take(&mut self, job: Job, samples: &[u16], out: &mut [i32]) -> Taken;
+    fn take(&mut self, job: Job, samples: &[u16], out: &mut [i32]) -> Taken
+        requires { length samples.now ≤ most * job.width };
 
     /// Ends the rows.
     fn close(&mut self);
@@ -55,20 +39,23 @@ pub trait Filter {
     fn step(&mut self, out: &mut [i32]) -> Closing;
 }
 
-/// The filter by a table.
+/// The filter by a table, and the stores that are lent to it.
 #[derive(Drop)]
-pub struct ByTable {
+pub struct ByTable<'a> {
     scan: Scan,
-    samples: Vec<u16>,
-    sums: Vec<u32>,
+    samples: &'a mut [u16],
+    sums: &'a mut [u32],
 }
 
-impl ByTable {
+impl<'a> ByTable<'a> {
     /// Starts a scan.
-    pub fn start(alloc: Global, table: Table, job: Job) -> Result<ByTable, Unstarted> {
-        let mut samples = vec![in alloc; 0u16; 32768]?;
-        let mut sums = vec![in alloc; 0u32; 16384]?;
-        let started = scan::start(table, job.width as usize, &mut samples, &mut sums);
+    pub fn start(
+        table: Table,
+        job: Job,
+        samples: &'a mut [u16],
+        sums: &'a mut [u32],
+    ) -> Result<ByTable<'a>, Fault> {
+        let started = scan::start(table, job.width as usize, samples, sums);
         row_fault(started.verdict, job, 0, 0, 0)?;
         Ok(ByTable {
             scan: started.scan,
@@ -78,8 +65,15 @@ impl ByTable {
     }
 }
 
-impl Filter for ByTable {
-    fn at_once(left: u32) -> u32 {
+impl Filter for ByTable<'_> {
+    ghost most = { 2 ^ 32 };
+
+    fn at_once(left: u32) -> u32
+        requires some { 0 < left }
+        ensures some { 0 < result }
+        ensures within { result ≤ left }
+        ensures few { result ≤ 2 ^ 32 }
+    {
         left
     }
 
@@ -88,7 +82,7 @@ impl Filter for ByTable {
     }
 
     fn take(&mut self, job: Job, samples: &[u16], out: &mut [i32]) -> Taken {
-        let burst = burst::rows(self.scan, samples, &mut self.samples, &mut self.sums, out);
+        let burst = burst::rows(self.scan, samples, self.samples, self.sums, out);
         self.scan = burst.scan;
         Taken {
             filtered: burst.filtered,
@@ -101,19 +95,19 @@ impl Filter for ByTable {
     }
 
     fn step(&mut self, out: &mut [i32]) -> Closing {
-        let stepped = scan::step(self.scan, &mut self.samples, &mut self.sums, out);
+        let stepped = scan::step(self.scan, self.samples, self.sums, out);
         self.scan = stepped.scan;
         stepped.answer
     }
 }
 
-/// The filter by a ranked window.
+/// The filter by a ranked window, and the stores that are lent to it.
 #[derive(Drop)]
-pub struct ByRank {
+pub struct ByRank<'a> {
     scan: RankScan,
-    samples: Vec<u16>,
-    counts: Vec<u16>,
-    windows: Vec<u16>,
+    samples: &'a mut [u16],
+    counts: &'a mut [u16],
+    windows: &'a mut [u16],
 }
 
 /// The window around a place.
@@ -128,20 +122,23 @@ fn window(ranking: Ranking) -> Window {
     }
 }
 
-impl ByRank {
+impl<'a> ByRank<'a> {
     /// Starts a scan, whose samples have 8 bits at most.
-    pub fn start(alloc: Global, ranking: Ranking, job: Job) -> Result<ByRank, Unstarted> {
-        let mut samples = vec![in alloc; 0u16; 32768]?;
-        let mut counts = vec![in alloc; 0u16; 262144]?;
-        let mut windows = vec![in alloc; 0u16; 256]?;
+    pub fn start(
+        ranking: Ranking,
+        job: Job,
+        samples: &'a mut [u16],
+        counts: &'a mut [u16],
+        windows: &'a mut [u16],
+    ) -> Result<ByRank<'a>, Fault> {
         let started = rank::start(
             8,
             window(ranking),
             ranking.rank,
             job.width as usize,
-            &mut samples,
-            &mut counts,
-            &mut windows,
+            samples,
+            counts,
+            windows,
         );
         row_fault(started.verdict, job, 0, 0, 0)?;
         Ok(ByRank {
@@ -151,10 +148,33 @@ impl ByRank {
             windows,
         })
     }
+
+    /// Takes one row of a scan.
+    fn row(&mut self, job: Job, samples: &[u16], out: &mut [i32]) -> Answer
+        requires { length samples.now ≤ job.width }
+    {
+        let moved = rank::row(
+            self.scan,
+            samples,
+            self.samples,
+            self.counts,
+            self.windows,
+            out,
+        );
+        self.scan = moved.scan;
+        moved.answer
+    }
 }
 
-impl Filter for ByRank {
-    fn at_once(_left: u32) -> u32 {
+impl Filter for ByRank<'_> {
+    ghost most = { 1 };
+
+    fn at_once(left: u32) -> u32
+        requires some { 0 < left }
+        ensures some { 0 < result }
+        ensures within { result ≤ left }
+        ensures few { result ≤ 1 }
+    {
         1
     }
 
@@ -162,23 +182,14 @@ impl Filter for ByRank {
         self.scan.rows
     }
 
-    fn take(&mut self, _job: Job, samples: &[u16], out: &mut [i32]) -> Taken {
+    fn take(&mut self, job: Job, samples: &[u16], out: &mut [i32]) -> Taken {
         if samples.is_empty() {
             return Taken {
                 filtered: 0,
                 verdict: Ok(()),
             };
         }
-        let moved = rank::row(
-            self.scan,
-            samples,
-            &mut self.samples,
-            &mut self.counts,
-            &mut self.windows,
-            out,
-        );
-        self.scan = moved.scan;
-        let (filtered, verdict) = match moved.answer {
+        let (filtered, verdict) = match self.row(job, samples, out) {
             Answer::Row(_) => (1, Ok(())),
             Answer::Waiting => (0, Ok(())),
             Answer::Refused(number, place) => (0, Err(Fault::Engine(number, place))),
@@ -191,13 +202,7 @@ impl Filter for ByRank {
     }
 
     fn step(&mut self, out: &mut [i32]) -> Closing {
-        let stepped = rank::step(
-            self.scan,
-            &mut self.samples,
-            &mut self.counts,
-            &mut self.windows,
-            out,
-        );
+        let stepped = rank::step(self.scan, self.samples, self.counts, self.windows, out);
         self.scan = stepped.scan;
         stepped.answer
     }

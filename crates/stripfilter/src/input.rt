@@ -75,7 +75,7 @@ pub fn header<S: Read, O, E: Write>(console: &mut Console<S, O, E>, b: u8) -> Op
     match filtering::judge(b, header, n) {
         Ok(job) => Some(job),
         Err(fault) => {
-            output::report(console, b"scan", fault);
+            output::report(&mut console.errors, b"scan", fault);
             None
         }
     }

@@ -10,16 +10,17 @@ mod input;
 mod output;
 mod rows;
 
+ghost use Rattle.std.specs.Prelude.{◌*◌, ◌≤◌, min, length};
 ghost use Rattle.filtering.specs.Judging.{Accepts};
 
 use commands::{Command, Output, Ranking};
 use console::Console;
-use filtering::{Job, table_fault};
-use filters::{ByRank, ByTable, Filter, Unstarted};
+use filtering::{Fault, table_fault};
+use filters::{ByRank, ByTable, Filter};
 use layout::Table;
 use output::{Form, Plan};
+use rows::Room;
 use std::env::Env;
-use std::io;
 use std::io::{Read, Write};
 use std::rt::Files;
 use streams::fail;
@@ -28,17 +29,18 @@ use streams::fail;
 fn run<F: Filter + Drop, S: Read, O: Write, E: Write>(
     console: &mut Console<S, O, E>,
     what: &[u8],
-    started: Result<F, Unstarted>,
+    started: Result<F, Fault>,
     plan: Plan,
+    room: Room,
 )
-    requires { Accepts plan.job }
+    requires accepted { Accepts plan.job }
+    requires room { min (F.most * 2048) 65536 ≤ length room.bytes.now }
 {
     match started {
         Ok(mut filter) => {
-            let _ = rows::run(console, plan, &mut filter);
+            let _ = rows::run(console, plan, &mut filter, room);
         }
-        Err(Unstarted::Refused(fault)) => output::report(console, what, fault),
-        Err(Unstarted::Memory(why)) => fail(&mut console.errors, what, &io::Error::from(why)),
+        Err(fault) => output::report(&mut console.errors, what, fault),
     }
 }
 
@@ -53,8 +55,15 @@ fn by_table<S: Read, O: Write, E: Write>(
             Output::Numbers => Form::Values,
             Output::Picture => Form::Words(table.w),
         };
-        let started = ByTable::start(console.alloc, table, job);
-        run(console, b"scan", started, Plan { job, form });
+        let mut samples = [0u16; 32768];
+        let mut sums = [0u32; 16384];
+        let room = Room {
+            bytes: &mut [0; 65536],
+            samples: &mut [0; 65536],
+            out: &mut [0; 65536],
+        };
+        let started = ByTable::start(table, job, &mut samples, &mut sums);
+        run(console, b"scan", started, Plan { job, form }, room);
     }
 }
 
@@ -69,8 +78,16 @@ fn by_rank<S: Read, O: Write, E: Write>(
             Output::Numbers => Form::Values,
             Output::Picture => Form::Bytes,
         };
-        let started = ByRank::start(console.alloc, ranking, job);
-        run(console, b"rank", started, Plan { job, form });
+        let mut samples = [0u16; 32768];
+        let mut counts = [0u16; 262144];
+        let mut windows = [0u16; 256];
+        let room = Room {
+            bytes: &mut [0; 4096],
+            samples: &mut [0; 1024],
+            out: &mut [0; 1024],
+        };
+        let started = ByRank::start(ranking, job, &mut samples, &mut counts, &mut windows);
+        run(console, b"rank", started, Plan { job, form }, room);
     }
 }
 
@@ -88,7 +105,7 @@ fn by_file<R: Files, S: Read, O: Write, E: Write>(
     }
     match table_fault(table::load(&bytes[..got.end]), got.end) {
         Ok(table) => by_table(console, table, output),
-        Err(fault) => output::report(console, path, fault),
+        Err(fault) => output::report(&mut console.errors, path, fault),
     }
 }
 
@@ -111,7 +128,6 @@ fn main(rt: HostRuntime) {
         input: rt.stdin(),
         output: rt.stdout(),
         errors: rt.stderr(),
-        alloc: rt.alloc(),
     };
     let c = input::command(&rt);
     match c {

@@ -4,23 +4,18 @@ ghost use Rattle.filtering.specs.Judging.{Accepts};
 
 use crate::console::Console;
 use commands::Command;
-use filtering::{Fault, Job};
+use filtering::{Fault, Job, put_fault};
 use std::env::Env;
-use std::fmt::Display;
-use std::io;
 use std::io::Write;
-use streams::{fail, put};
+use streams::put;
 
 /// A line on standard error: what a fault is a fault of, and the fault.
-pub fn report<S, O, E: Write>(console: &mut Console<S, O, E>, what: &[u8], fault: Fault) {
-    match format!(in console.alloc; "{fault}") {
-        Ok(text) => {
-            let _ = console.errors.write_all(what);
-            let _ = console.errors.write_all(b": ");
-            let _ = console.errors.write_all(text.as_bytes());
-        }
-        Err(why) => fail(&mut console.errors, what, &why.into()),
-    }
+pub fn report<E: Write>(errors: &mut E, what: &[u8], fault: Fault) {
+    let mut text = [0u8; 4096];
+    let n = put_fault(fault, &mut text);
+    let _ = errors.write_all(what);
+    let _ = errors.write_all(b": ");
+    let _ = errors.write_all(&text[..n]);
 }
 
 /// The answer to a command line that asks for no filtering.
@@ -69,38 +64,15 @@ fn written<S, O: Write, E: Write>(
     }
 }
 
-/// What a value prints, in one piece on standard output.
-fn printed<T: Display, S, O: Write, E: Write>(
-    console: &mut Console<S, O, E>,
-    shown: &T,
-) -> Result<(), Unwritable> {
-    match format!(in console.alloc; "{shown}") {
-        Ok(text) => written(console, text.as_bytes()),
-        Err(why) => {
-            fail(
-                &mut console.errors,
-                b"standard output",
-                &io::Error::from(why),
-            );
-            Err(Unwritable)
-        }
-    }
-}
-
 /// The header of a picture with this maxval.
 fn head<S, O: Write, E: Write>(
     console: &mut Console<S, O, E>,
     job: Job,
     maxval: u32,
 ) -> Result<(), Unwritable> {
-    printed(
-        console,
-        &pgm::Head {
-            width: job.width,
-            height: job.height,
-            maxval,
-        },
-    )
+    let mut text = [0u8; 66];
+    let n = pgm::head(job.width, job.height, maxval, &mut text);
+    written(console, &text[..n])
 }
 
 /// What comes before the rows: nothing before decimal numbers; bytes have the scan's maxval.
@@ -123,8 +95,10 @@ fn lines<S, O: Write, E: Write>(
 ) -> Result<(), Unwritable>
     requires { 1 ≤ width }
 {
+    let mut text = [0u8; 22528];
     for row in pixels.chunks_exact(width) {
-        printed(console, &pgm::Line(row))?;
+        let n = pgm::line(row, &mut text);
+        written(console, &text[..n])?;
     }
     Ok(())
 }

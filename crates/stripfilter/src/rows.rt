@@ -1,4 +1,5 @@
 //! The rows of a scan, as many at a time as one read brings.
+ghost use Rattle.std.specs.Prelude.{◌*◌, ◌≤◌, min, length};
 ghost use Rattle.filtering.specs.Judging.{Accepts};
 
 use crate::console::Console;
@@ -26,7 +27,8 @@ fn some_rows<F: Filter, S, O: Write, E: Write>(
     samples: &mut [u16],
     out: &mut [i32],
 ) -> Result<Turn, Unwritable>
-    requires { Accepts plan.job }
+    requires accepted { Accepts plan.job }
+    requires few { length bytes.now ≤ F.most * plan.job.need }
 {
     let job = plan.job;
     let n = pgm::decode(bytes, job.maxval, samples);
@@ -36,18 +38,26 @@ fn some_rows<F: Filter, S, O: Write, E: Write>(
     let written = output::rows(console, plan, out, taken.filtered);
     let sample = filtering::row_fault(Ok(()), job, filter.rows(), place, n);
     if let Err(fault) = taken.verdict.and(sample) {
-        output::report(console, b"scan", fault);
+        output::report(&mut console.errors, b"scan", fault);
         return written.map(|()| Turn::Over);
     }
     written.map(|()| Turn::More)
 }
 
 /// Says why there is no whole row more.
-fn stopped<S, O, E: Write>(console: &mut Console<S, O, E>, got: &Got, row: u32, need: u32) {
+fn stopped<E: Write>(errors: &mut E, got: &Got, row: u32, need: u32) {
     match &got.failed {
-        Some(why) => fail(&mut console.errors, b"scan", why),
-        None => output::report(console, b"scan", Fault::Cut(row, got.end, need)),
+        Some(why) => fail(errors, b"scan", why),
+        None => output::report(errors, b"scan", Fault::Cut(row, got.end, need)),
     }
+}
+
+/// The room for rows: their bytes, their samples, and the filtered rows that come of them.
+#[derive(Drop)]
+pub struct Room<'a> {
+    pub bytes: &'a mut [u8],
+    pub samples: &'a mut [u16],
+    pub out: &'a mut [i32],
 }
 
 /// All rows, or those before the one that is cut off or has a sample too large. Nothing behind the last row is read.
@@ -55,35 +65,32 @@ fn rows<F: Filter, S: Read, O: Write, E: Write>(
     console: &mut Console<S, O, E>,
     plan: Plan,
     filter: &mut F,
+    room: Room,
 ) -> Result<(), Unwritable>
-    requires { Accepts plan.job }
+    requires accepted { Accepts plan.job }
+    requires room { min (F.most * 2048) 65536 ≤ length room.bytes.now }
 {
     let need = plan.job.need;
-    let mut store = [0u8; 65536];
-    let mut samples = [0u16; 65536];
-    let mut out = [0i32; 65536];
+    let Room {
+        bytes: store,
+        samples,
+        out,
+    } = room;
     let mut left = plan.job.height;
     let mut have = 0;
     while left > 0 {
         let most = filtering::read_most(F::at_once(left), need);
-        let got = gather(&mut console.input, &mut store, have, need as usize, most);
+        let got = gather(&mut console.input, store, have, need as usize, most);
         let bytes = filtering::whole_part(got.end, need);
         if bytes == 0 {
-            stopped(console, &got, filter.rows(), need);
+            stopped(&mut console.errors, &got, filter.rows(), need);
             return Ok(());
         }
-        let turn = some_rows(
-            console,
-            plan,
-            filter,
-            &store[..bytes],
-            &mut samples,
-            &mut out,
-        )?;
+        let turn = some_rows(console, plan, filter, &store[..bytes], samples, out)?;
         if turn == Turn::Over {
             return Ok(());
         }
-        have = filtering::forward(&mut store, bytes, got.end);
+        have = filtering::forward(store, bytes, got.end);
         left = filtering::rows_left(left, bytes, need);
     }
     Ok(())
@@ -104,7 +111,7 @@ fn steps<F: Filter, S, O: Write, E: Write>(
             Closing::Waiting => {}
             Closing::Done => return Ok(()),
             Closing::Refused(number, place) => {
-                output::report(console, b"scan", Fault::Engine(number, place));
+                output::report(&mut console.errors, b"scan", Fault::Engine(number, place));
                 return Ok(());
             }
         }
@@ -118,11 +125,13 @@ pub fn run<F: Filter, S: Read, O: Write, E: Write>(
     console: &mut Console<S, O, E>,
     plan: Plan,
     filter: &mut F,
+    room: Room,
 ) -> Result<(), Unwritable>
-    requires { Accepts plan.job }
+    requires accepted { Accepts plan.job }
+    requires room { min (F.most * 2048) 65536 ≤ length room.bytes.now }
 {
     output::begin(console, plan)?;
-    rows(console, plan, filter)?;
+    rows(console, plan, filter, room)?;
     filter.close();
     steps(console, plan, filter)
 }

@@ -4,15 +4,14 @@ use crate::words::{Command, Numbers, letter};
 use layout::Table;
 use limits::Header;
 use scan::Scan;
-use std::alloc::{AllocError, Global};
 use std::io::Write;
 
 /// What the strips are tried on: a scan with its table, its stores, and how many places of them and of the output are lent to a call.
 #[derive(Drop)]
-pub struct Desk {
+pub struct Desk<'a> {
     scan: Scan,
-    kept: Vec<u16>,
-    sums: Vec<u32>,
+    kept: &'a mut [u16],
+    sums: &'a mut [u32],
     lent_samples: usize,
     lent_sums: usize,
     lent_out: usize,
@@ -50,10 +49,10 @@ fn pixel<W: Write>(output: &mut W, n: &Numbers, table: Table) {
     }
 }
 
-impl Desk {
-    /// No table and no scan.
-    pub fn fresh(alloc: Global) -> Result<Desk, AllocError> {
-        Ok(Desk {
+impl<'a> Desk<'a> {
+    /// No table and no scan, and these stores.
+    pub fn fresh(kept: &'a mut [u16], sums: &'a mut [u32]) -> Desk<'a> {
+        Desk {
             scan: Scan {
                 table: no_table(),
                 width: 0,
@@ -61,12 +60,12 @@ impl Desk {
                 steps: 0,
                 closed: false,
             },
-            kept: vec![in alloc; 0u16; 32768]?,
-            sums: vec![in alloc; 0u32; 1024]?,
+            kept,
+            sums,
             lent_samples: 0,
             lent_sums: 0,
             lent_out: 0,
-        })
+        }
     }
 
     /// A command on the stores, as far as they are lent.

@@ -29,7 +29,6 @@ mod words;
 
 use desk::Desk;
 use ranked::RankDesk;
-use std::alloc::{AllocError, Global};
 use std::io::Write;
 use streams::gather;
 use words::letter;
@@ -43,22 +42,24 @@ fn obey<W: Write>(output: &mut W, line: &[u8], scan: &mut Desk, ranked: &mut Ran
     }
 }
 
-fn all<W: Write>(alloc: Global, output: &mut W, text: &[u8]) -> Result<(), AllocError> {
-    let mut scan = Desk::fresh(alloc)?;
-    let mut ranked = RankDesk::fresh(alloc)?;
+fn all<W: Write>(output: &mut W, text: &[u8]) {
+    let mut kept = [0u16; 32768];
+    let mut sums = [0u32; 1024];
+    let mut samples = [0u16; 256];
+    let mut counts = [0u16; 2048];
+    let mut windows = [0u16; 300];
+    let mut scan = Desk::fresh(&mut kept, &mut sums);
+    let mut ranked = RankDesk::fresh(&mut samples, &mut counts, &mut windows);
     let mut rest = text;
     while !rest.is_empty() {
         let end = rest.iter().position(|&b| b == b'\n').unwrap_or(rest.len());
         obey(output, &rest[..end], &mut scan, &mut ranked);
         rest = &rest[(end + 1).min(rest.len())..];
     }
-    Ok(())
 }
 
 fn main(rt: HostRuntime) {
     let mut text = [0u8; 16384];
     let got = gather(&mut rt.stdin(), &mut text, 0, 16384, 16384);
-    if all(rt.alloc(), &mut rt.stdout(), &text[..got.end]).is_err() {
-        let _ = rt.stderr().write_all(b"strips: out of memory\n");
-    }
+    all(&mut rt.stdout(), &text[..got.end]);
 }

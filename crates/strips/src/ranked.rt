@@ -2,16 +2,15 @@
 use crate::answered;
 use crate::words::{Command, Numbers, letter};
 use rank::{RankScan, Window};
-use std::alloc::{AllocError, Global};
 use std::io::Write;
 
 /// A ranked scan, its stores, and how many places of them and of the output are lent to a call.
 #[derive(Drop)]
-pub struct RankDesk {
+pub struct RankDesk<'a> {
     scan: RankScan,
-    samples: Vec<u16>,
-    counts: Vec<u16>,
-    windows: Vec<u16>,
+    samples: &'a mut [u16],
+    counts: &'a mut [u16],
+    windows: &'a mut [u16],
     lent_samples: usize,
     lent_counts: usize,
     lent_windows: usize,
@@ -37,10 +36,14 @@ fn alter<W: Write>(output: &mut W, n: &Numbers, store: &mut [u16]) {
     }
 }
 
-impl RankDesk {
-    /// No scan.
-    pub fn fresh(alloc: Global) -> Result<RankDesk, AllocError> {
-        Ok(RankDesk {
+impl<'a> RankDesk<'a> {
+    /// No scan, and these stores.
+    pub fn fresh(
+        samples: &'a mut [u16],
+        counts: &'a mut [u16],
+        windows: &'a mut [u16],
+    ) -> RankDesk<'a> {
+        RankDesk {
             scan: RankScan {
                 window: Window {
                     leadrow: 0,
@@ -55,14 +58,14 @@ impl RankDesk {
                 steps: 0,
                 closed: false,
             },
-            samples: vec![in alloc; 0u16; 256]?,
-            counts: vec![in alloc; 0u16; 2048]?,
-            windows: vec![in alloc; 0u16; 300]?,
+            samples,
+            counts,
+            windows,
             lent_samples: 0,
             lent_counts: 0,
             lent_windows: 0,
             lent_out: 0,
-        })
+        }
     }
 
     /// A command on the stores, as far as they are lent.

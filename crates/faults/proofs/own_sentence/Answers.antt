@@ -1,5 +1,5 @@
 use Rattle.std.proofs.Common.{arith, sym}
-use Rattle.faults.proofs.Written.{no_sentence}
+use Rattle.faults.proofs.Past.{no_sentence}
 use Rattle.faults.proofs.own_sentence.Goals as goal
 
 pub returns-in_default : goal.returns-in_default

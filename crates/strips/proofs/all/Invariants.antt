@@ -2,5 +2,5 @@
 use Rattle.std.proofs.Common.{length}
 use Rattle.strips.proofs.all.Given as goal
 
-abbrev pub decreases-loop-rest : goal.decreases-loop-rest
-decreases-loop-rest g l = length l.rest
+abbrev pub decreases-loop-scan : goal.decreases-loop-scan
+decreases-loop-scan g l = length l.rest

@@ -1,11 +1,29 @@
 -- Pixel after pixel is put, two bytes each.
-use Rattle.std.proofs.Common.{◌≡◌, ℕ, ◌*◌, ◌+◌, ap, ◌∙◌, add-one, get_or, pos, arith, rules, to_z-of_z, set}
+use Rattle.std.proofs.Common.{◌≡◌, ℕ, ◌*◌, ◌+◌, ◌-◌, ◌^◌, ◌%◌, ◌≤◌, ap, ◌∙◌, add-one, get_or, pos, arith, rules, to_z-of_z, set, pow_mono}
 use mir.Syntax.{w32}
 use mir.Val.{SFits}
 use Rattle.arith.proofs.Passes.{grid_none}
 use Rattle.pgm.specs.Shade.{shade, byte_of}
-use Rattle.pgm.proofs.Mapping.{two_set}
+use Rattle.pgm.proofs.Mapping.{word_range, two_set}
 use Rattle.pgm.proofs.shades.put.Goals as goal
+
+pub overflow_sub-floor : goal.overflow_sub-floor
+overflow_sub-floor c = let r = (word_range _ c.requires.word).0 in omega arith
+
+pub overflow_shl-floor : goal.overflow_shl-floor
+overflow_shl-floor c = let r = (word_range _ c.requires.word).1 in omega arith
+
+pub overflow_sub-floor-2 : goal.overflow_sub-floor-2
+overflow_sub-floor-2 c =
+    let r = (word_range _ c.requires.word).1 in
+    let m : 2 ^ (c.args.w - 1) ≤ 2 ^ 31 = pow_mono {j = 31} (omega arith) in
+    omega arith
+
+pub shade-requires : goal.shade-requires
+shade-requires c =
+    let r = (word_range _ c.requires.word).1 in
+    let m : 2 ^ (c.args.w - 1) ≤ 2 ^ 31 = pow_mono {j = 31} (omega arith) in
+    (omega arith, c.saturating_sub-low.ensures, r)
 
 pub loop-k-init : goal.loop-k-init
 loop-k-init c = grid_none 2 (λ k. byte_of (shade c.args.w (get_or c.args.pixels.now k (pos 0)))) c.args.out.now

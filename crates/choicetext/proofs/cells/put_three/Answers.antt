@@ -1,0 +1,13 @@
+-- `choicetext::cells::put_three`: three numbers one after the other.
+-- Assumes nothing.
+use Rattle.choicetext.specs.Lines.{three}
+use Rattle.text.proofs.Puts.{put_then}
+use Rattle.choicetext.proofs.cells.put_three.Goals as goal
+
+pub returns-clause-put : goal.returns-clause-put
+unfolding three
+returns-clause-put c =
+    let x = c.put_cell-a.ensures in
+    let y = c.put_cell-a-2.ensures in
+    let z = c.put_cell.ensures in
+    put_then (put_then x.put y.put) z.put
