@@ -1,7 +1,7 @@
 //! What is counted of the scans of one kind, and a checksum of the pixels of each filter.
 use crate::chance::next;
 use crate::runs::Said;
-use std::fmt;
+use std::io::Write;
 
 #[derive(Clone, Copy, Debug, Default, PartialEq, Eq)]
 pub struct Counts {
@@ -35,6 +35,13 @@ pub fn count(n: &mut u64, so: bool) {
 fn mix(sum: &mut u64, pixel: i64) {
     let raised = pixel.wrapping_add(2147483648).cast_unsigned();
     *sum = next(*sum ^ raised ^ 88172645463325252);
+}
+
+/// A name and its number, in three writes. One that fails is passed over: the next are tried all the same.
+fn line<W: Write>(output: &mut W, name: &str, number: u64) {
+    let _ = output.write_all(name.as_bytes());
+    let _ = write!(output, "{number}");
+    let _ = output.write_all(b"\n");
 }
 
 impl Counts {
@@ -73,32 +80,39 @@ impl Counts {
         count(&mut self.above, beside > 0);
         count(&mut self.different, engine != beside);
     }
-}
 
-impl fmt::Display for Counts {
-    fn fmt<W: fmt::Write>(&self, f: &mut fmt::Formatter<W>) -> fmt::Result {
-        writeln!(f, "tables refused .................... {}", self.refused)?;
-        writeln!(f, "scans ............................. {}", self.scans)?;
-        writeln!(f, "scans with no rows ................ {}", self.empty)?;
-        writeln!(f, "scans with fewer rows than D ...... {}", self.short)?;
-        writeln!(f, "scans with drops .................. {}", self.drops)?;
-        writeln!(f, "scans with a lead row below 0 ..... {}", self.behind)?;
-        writeln!(f, "rows in ........................... {}", self.rows_in)?;
-        writeln!(f, "dead elements ..................... {}", self.dead)?;
-        writeln!(f, "waiting ........................... {}", self.waiting)?;
-        writeln!(f, "done .............................. {}", self.done)?;
-        writeln!(
-            f,
-            "answers refused ................... {}",
-            self.answers_refused
-        )?;
-        writeln!(f, "rows out .......................... {}", self.rows_out)?;
-        writeln!(f, "wrong answers ..................... {}", self.wrong)?;
-        writeln!(f, "pixels ............................ {}", self.pixels)?;
-        writeln!(f, "pixels below 0 .................... {}", self.below)?;
-        writeln!(f, "pixels above 0 .................... {}", self.above)?;
-        writeln!(f, "different pixels .................. {}", self.different)?;
-        writeln!(f, "checksum of the engine ............ {}", self.engine)?;
-        writeln!(f, "checksum of the filter beside it .. {}", self.beside)
+    /// Writes each number with its name, a line each.
+    pub fn put<W: Write>(&self, output: &mut W) {
+        line(output, "tables refused .................... ", self.refused);
+        line(output, "scans ............................. ", self.scans);
+        line(output, "scans with no rows ................ ", self.empty);
+        line(output, "scans with fewer rows than D ...... ", self.short);
+        line(output, "scans with drops .................. ", self.drops);
+        line(output, "scans with a lead row below 0 ..... ", self.behind);
+        line(output, "rows in ........................... ", self.rows_in);
+        line(output, "dead elements ..................... ", self.dead);
+        line(output, "waiting ........................... ", self.waiting);
+        line(output, "done .............................. ", self.done);
+        line(
+            output,
+            "answers refused ................... ",
+            self.answers_refused,
+        );
+        line(
+            output,
+            "rows out .......................... ",
+            self.rows_out,
+        );
+        line(output, "wrong answers ..................... ", self.wrong);
+        line(output, "pixels ............................ ", self.pixels);
+        line(output, "pixels below 0 .................... ", self.below);
+        line(output, "pixels above 0 .................... ", self.above);
+        line(
+            output,
+            "different pixels .................. ",
+            self.different,
+        );
+        line(output, "checksum of the engine ............ ", self.engine);
+        line(output, "checksum of the filter beside it .. ", self.beside);
     }
 }

@@ -1,5 +1,5 @@
 //! A scan that is lent whole.
-ghost use Rattle.std.specs.Prelude.{◌*◌, ◌≤◌, ◌<◌, length};
+ghost use Rattle.std.specs.Prelude.{◌*◌, ◌≤◌, ◌<◌, length, slice_index, EachIndex};
 
 /// `height` rows of `width` samples, one after the other: as the sensor sends them, and mended.
 #[derive(Clone, Copy, Debug)]
@@ -15,6 +15,7 @@ pub struct Given<'a> {
 /// Samples mended: where an element is dead, which is sent as 65,535, the live one to its left in its row, 0 where there is none.
 pub fn mended(sent: &[u16; 65536], width: usize) -> [u16; 65536]
     requires { 0 < width }
+    ensures { EachIndex result (λ k. slice_index result k < 65535) }
 {
     let mut mended = *sent;
     let mut left = 0;
@@ -31,11 +32,19 @@ pub fn mended(sent: &[u16; 65536], width: usize) -> [u16; 65536]
 }
 
 impl<'a> Given<'a> {
+    /// Where the sample at a row and a column stands.
+    fn place(&self, row: usize, col: usize) -> usize
+        requires { (row < self.now.height) × (col < self.now.width) }
+        ensures { (result < 65536) × (result < length self.now.mended.now) }
+    {
+        row * self.width + col
+    }
+
     /// Row r as it is sent, where there is one.
     pub fn row(&self, r: usize) -> Option<&'a [u16]> {
         if r < self.height {
             let at = r * self.width;
-            self.sent.get(at..at + self.width)
+            Some(&self.sent[at..at + self.width])
         } else {
             None
         }
@@ -48,7 +57,7 @@ impl<'a> Given<'a> {
         }
         let (row, col) = (row as usize, col as usize);
         if row < self.height && col < self.width {
-            self.mended.get(row * self.width + col).copied()
+            Some(self.mended[self.place(row, col)])
         } else {
             None
         }

@@ -17,7 +17,7 @@ use counts::{Counts, count};
 use filter::Filter;
 use given::{Given, mended};
 use layout::Table;
-use ranks::Ranked;
+use ranks::{Drawn, Ranked};
 use std::io::Write;
 
 /// How many tables are drawn, and how many ranked windows.
@@ -114,7 +114,9 @@ fn one(n: &mut Counts, seed: u64) {
 /// A ranked window with a scan of its own.
 fn ranked(n: &mut Counts, seed: u64) {
     let b = ranks::bits(seed);
-    let window = ranks::window(seed);
+    let drawn = Drawn::from_seed(seed);
+    let window = drawn.window();
+    let rank = drawn.rank(seed);
     let samples = samples(seed, b);
     let width = width_of(seed);
     let given = Given {
@@ -123,24 +125,17 @@ fn ranked(n: &mut Counts, seed: u64) {
         width,
         height: height_of(seed),
     };
-    let delay = ranks::delay(window);
+    let delay = drawn.delay();
     n.scan(given.height, delay);
     count(&mut n.behind, window.leadrow < 0);
     n.dead(&samples[..width * given.height]);
     let mut kept = [7u16; 32768];
     let mut counts = [9u16; 262144];
     let mut windows = [5u16; 256];
-    let scan = rank::start(
-        b,
-        window,
-        ranks::rank(seed, window),
-        width,
-        &mut kept,
-        &mut counts,
-        &mut windows,
-    )
-    .scan;
+    let scan = rank::start(b, window, rank, width, &mut kept, &mut counts, &mut windows).scan;
     let mut beside = Ranked {
+        window,
+        rank,
         scan,
         samples: &mut kept,
         counts: &mut counts,
@@ -155,9 +150,11 @@ fn main(rt: HostRuntime) {
     for i in 0..TABLES {
         one(&mut filters, mixed(i ^ 88172645463325252));
     }
+    filters.put(&mut output);
     let mut ranks = Counts::default();
     for i in 0..RANKS {
         ranked(&mut ranks, mixed(i ^ 362436069362436069));
     }
-    let _ = write!(output, "{filters}ranked windows\n{ranks}");
+    let _ = output.write_all(b"ranked windows\n");
+    ranks.put(&mut output);
 }

@@ -1,28 +1,85 @@
 //! A ranked filter written apart from the ranked engine, which counts every covered sample afresh; and what is drawn for it.
-ghost use Rattle.std.specs.Prelude.{◌<◌};
+ghost use Rattle.std.specs.Prelude.{◌+◌, ◌≤◌, pos, neg_ℤ, ◌≤ℤ◌, ◌<ℤ◌, slice_index, EachIndex};
 
 use crate::chance::{draw, pick};
+use crate::filter::{first_covered, last_covered};
 use crate::given::Given;
 use crate::runs::Beside;
 use layout::{Answer, Closing};
 use rank::{RankScan, Window};
 
-/// A lead from -15 to 15, and a trail below it, from -16 on.
-fn edges(seed: u64, key: u64) -> (i8, i8) {
-    let lead = pick(seed, key, 30, 30);
-    let trail = pick(seed, key ^ 64, lead, 0);
-    (lead as i8 - 15, trail as i8 - 16)
+/// The edges of a window along one axis: a lead from -15 to 15, and a trail below it, from -16 on.
+#[derive(Clone, Copy, Debug)]
+struct Edges {
+    lead: i8,
+    trail: i8,
+    ghost within: { (neg_ℤ (pos 16) ≤ℤ trail) × (trail <ℤ lead) × (lead ≤ℤ pos 15) },
 }
 
-/// A window from a seed.
-pub fn window(seed: u64) -> Window {
-    let (leadrow, trailrow) = edges(seed, 300);
-    let (leadcol, trailcol) = edges(seed, 301);
-    Window {
-        leadrow,
-        leadcol,
-        trailrow,
-        trailcol,
+impl Edges {
+    /// Those that belong to a seed and a key.
+    fn from_seed(seed: u64, key: u64) -> Edges {
+        let lead = pick(seed, key, 30, 30);
+        let trail = pick(seed, key ^ 64, lead, 0);
+        Edges {
+            lead: lead as i8 - 15,
+            trail: trail as i8 - 16,
+        }
+    }
+
+    /// How far apart they are.
+    fn extent(self) -> u64
+        ensures { (1 ≤ result) × (result ≤ 31) }
+    {
+        u64::from(self.lead.abs_diff(self.trail))
+    }
+}
+
+/// A window that is drawn, by the edges of its rows and of its columns.
+#[derive(Clone, Copy, Debug)]
+pub struct Drawn {
+    rows: Edges,
+    columns: Edges,
+}
+
+impl Drawn {
+    /// That of a seed.
+    pub fn from_seed(seed: u64) -> Drawn {
+        Drawn {
+            rows: Edges::from_seed(seed, 300),
+            columns: Edges::from_seed(seed, 301),
+        }
+    }
+
+    /// The window itself.
+    pub fn window(self) -> Window {
+        Window {
+            leadrow: self.rows.lead,
+            leadcol: self.columns.lead,
+            trailrow: self.rows.trail,
+            trailcol: self.columns.trail,
+        }
+    }
+
+    /// The samples that it covers.
+    fn area(self) -> u64
+        ensures { (1 ≤ result) × (result ≤ 961) }
+    {
+        self.rows.extent() * self.columns.extent()
+    }
+
+    /// A rank of it.
+    pub fn rank(self, seed: u64) -> u32
+        ensures { (1 ≤ result) × (result ≤ 961) }
+    {
+        (1 + draw(seed, 303, self.area() - 1)) as u32
+    }
+
+    /// The lead row, or 0 where it is negative.
+    pub fn delay(self) -> usize
+        ensures { result ≤ 15 }
+    {
+        usize::from(self.rows.lead.max(0).unsigned_abs())
     }
 }
 
@@ -31,30 +88,49 @@ pub fn bits(seed: u64) -> u8 {
     1 + draw(seed, 302, 7) as u8
 }
 
-/// A rank of a window.
-pub fn rank(seed: u64, w: Window) -> u32 {
-    let rows = w.leadrow.abs_diff(w.trailrow);
-    let columns = w.leadcol.abs_diff(w.trailcol);
-    let area = u64::from(rows) * u64::from(columns);
-    1 + draw(seed, 303, area.saturating_sub(1)) as u32
+/// Counts the sample at a row and a column, where it is inside the scan and a level.
+fn count_place(counts: &mut [u32; 256], given: Given, row: i64, col: i64)
+    requires { EachIndex counts.old (λ k. slice_index counts.old k ≤ 960) }
+    ensures { EachIndex counts.new (λ k. slice_index counts.new k ≤ slice_index counts.old k + 1) }
+{
+    if let Some(x) = given.sample(row, col) {
+        let x = usize::from(x);
+        if x < 256 {
+            counts[x] += 1;
+        }
+    }
 }
 
-/// The lead row, or 0 where it is negative.
-pub fn delay(w: Window) -> usize
-    ensures { result < 128 }
+/// Counts the covered samples of a row.
+fn count_row(counts: &mut [u32; 256], given: Given, w: Window, row: i64, c: u32)
+    requires { EachIndex counts.old (λ k. slice_index counts.old k ≤ 930) }
+    ensures { EachIndex counts.new (λ k. slice_index counts.new k ≤ slice_index counts.old k + 31) }
 {
-    usize::from(w.leadrow.max(0).unsigned_abs())
+    for o in first_covered(w.trailcol)..=last_covered(w.leadcol) {
+        count_place(counts, given, row, i64::from(c) + i64::from(o));
+    }
+}
+
+/// Counts all covered samples.
+fn count_window(given: Given, w: Window, r: u32, c: u32) -> [u32; 256]
+    ensures { EachIndex result (λ k. slice_index result k ≤ 961) }
+{
+    let mut counts = [0u32; 256];
+    for o in first_covered(w.trailrow)..=last_covered(w.leadrow) {
+        count_row(&mut counts, given, w, i64::from(r) + i64::from(o), c);
+    }
+    counts
 }
 
 /// The lowest level up to which at least `rank` are counted, or the last that is counted; -1 where none is.
-fn level(counts: &[u64; 256], rank: u32) -> i64 {
+fn level(counts: &[u32; 256], rank: u32) -> i64 {
     let mut last = -1;
     let mut sum: u64 = 0;
     for (v, &times) in counts.iter().enumerate() {
         if times != 0 {
             last = v as i64;
         }
-        sum = sum.wrapping_add(times);
+        sum += u64::from(times);
         if u64::from(rank) <= sum {
             break;
         }
@@ -62,9 +138,11 @@ fn level(counts: &[u64; 256], rank: u32) -> i64 {
     last
 }
 
-/// The engine over a window, and the filter beside it.
+/// The engine over a window, and the filter beside it, which has the window and the rank as they were drawn.
 #[derive(Drop)]
 pub struct Ranked<'a> {
+    pub window: Window,
+    pub rank: u32,
     pub scan: RankScan,
     pub samples: &'a mut [u16],
     pub counts: &'a mut [u16],
@@ -88,18 +166,7 @@ impl Beside for Ranked<'_> {
         stepped.answer
     }
 
-    fn pixel(&self, given: Given, r: i64, c: i64) -> i64 {
-        let w = self.scan.window;
-        let mut counts = [0u64; 256];
-        for row in i64::from(w.trailrow) + 1..=i64::from(w.leadrow) {
-            for col in i64::from(w.trailcol) + 1..=i64::from(w.leadcol) {
-                if let Some(x) = given.sample(r.wrapping_add(row), c.wrapping_add(col)) {
-                    if let Some(times) = counts.get_mut(usize::from(x)) {
-                        *times = times.wrapping_add(1);
-                    }
-                }
-            }
-        }
-        level(&counts, self.scan.rank)
+    fn pixel(&self, given: Given, r: u32, c: u32) -> i64 {
+        level(&count_window(given, self.window, r, c), self.rank)
     }
 }

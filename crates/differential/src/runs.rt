@@ -47,7 +47,7 @@ pub trait Beside {
     fn step(&mut self, out: &mut [i32]) -> Closing;
 
     /// The pixel at row r, column c, by the filter written apart.
-    fn pixel(&self, given: Given, r: i64, c: i64) -> i64;
+    fn pixel(&self, given: Given, r: u32, c: u32) -> i64;
 }
 
 /// The answer that is due at arrival i of a scan of so many rows; those from there on are closing steps.
@@ -64,12 +64,9 @@ fn due(height: usize, delay: usize, i: usize) -> Said
 }
 
 /// Filtered row r against the filter beside the engine.
-fn compare<B: Beside>(n: &mut Counts, beside: &B, given: Given, r: u32, out: &[i32]) {
-    for (c, &pixel) in out.iter().enumerate() {
-        n.pixel(
-            i64::from(pixel),
-            beside.pixel(given, i64::from(r), c as i64),
-        );
+fn compare<B: Beside>(n: &mut Counts, beside: &B, given: Given, r: u32, out: &[i32; 1024]) {
+    for (c, &pixel) in out[..given.width].iter().enumerate() {
+        n.pixel(i64::from(pixel), beside.pixel(given, r, c as u32));
     }
 }
 
@@ -77,21 +74,20 @@ fn compare<B: Beside>(n: &mut Counts, beside: &B, given: Given, r: u32, out: &[i
 pub fn run<B: Beside>(n: &mut Counts, beside: &mut B, given: Given, delay: usize)
     requires { delay ≤ 128 }
 {
-    let mut pixels = [0i32; 1024];
-    let out = &mut pixels[..given.width];
+    let mut out = [0i32; 1024];
     for i in 0..given.height + delay + 2 {
         let said = match given.row(i) {
-            Some(row) => Said::from(beside.row(row, out)),
+            Some(row) => Said::from(beside.row(row, &mut out)),
             None => {
                 if i == given.height {
                     beside.close();
                 }
-                Said::from(beside.step(out))
+                Said::from(beside.step(&mut out))
             }
         };
         n.answer(said, due(given.height, delay, i));
         if let Said::Row(r) = said {
-            compare(n, beside, given, r, out);
+            compare(n, beside, given, r, &out);
         }
     }
 }
