@@ -3,3 +3,4 @@ pub mod Fitting
 pub mod Looks
 pub mod Exact
 pub mod Weights
+pub mod Answers

@@ -1,2 +1,3 @@
 pub mod Goods
 pub mod Lefts
+pub mod Answers

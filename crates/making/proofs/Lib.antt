@@ -6,3 +6,4 @@ pub mod Granted
 pub mod Collecting
 pub mod Outcomes
 pub mod Written
+pub mod Answers

@@ -1,6 +1,6 @@
 -- The words of a line, the numbers that they spell, and the lines of a text.
 -- Assumes nothing.
-use Rattle.std.specs.Prelude.{ℕ, ◌+◌, Bool, true, false, cond, ◌&&◌, ◌||◌, List, [], ◌∷◌, ◌++◌, ltb, eqb, length, get_or, drop, ℤ, pos, neg_ℤ}
+use Rattle.std.specs.Prelude.{ℕ, ◌+◌, ◌-◌, ◌≤◌, ◌<◌, ◌≡◌, Bool, true, false, cond, ◌&&◌, ◌||◌, List, [], ◌∷◌, ◌++◌, ltb, eqb, length, get_or, take, drop, ℤ, pos, neg_ℤ}
 use Rattle.pgm.specs.Grammar.{digits, number}
 
 -- ---- words
@@ -26,6 +26,23 @@ words_from word (b ∷ bs) = cond (eqb b 35) (ended word []) (cond (gap b) (ende
 -- the words of a line
 unfoldable pub words_of : List ℕ → List (List ℕ)
 words_of line = words_from [] line
+
+-- a part of a line: its bytes from place `start` to `end`
+pub record IsPart (line part : List ℕ) : Type 0 where
+  pub start : ℕ
+  pub end : ℕ
+  pub forth : start ≤ end
+  pub within : end ≤ length line
+  pub is : part ≡ take (end - start) (drop start line)
+
+-- a word of a line, and the rest of the line, which begins where the word ends
+pub record Next (line word rest : List ℕ) : Type 0 where
+  pub start : ℕ
+  pub end : ℕ
+  pub forth : start < end
+  pub within : end ≤ length line
+  pub word_is : word ≡ take (end - start) (drop start line)
+  pub rest_is : rest ≡ drop end line
 
 -- two words are the same
 unfoldable pub same : List ℕ → List ℕ → Bool

@@ -1,8 +1,8 @@
 //! Where the words of a line and the lines of a text stand.
-ghost use Rattle.std.specs.Prelude.{◌≡◌, ◌||◌, ◌∷◌, ◌≤◌, eqb, not, [], length, get_or, take, MatchOption};
+ghost use Rattle.std.specs.Prelude.{◌≡◌, ◌||◌, ◌∷◌, ◌≤◌, eqb, not, [], length, get_or, take, MatchOption, IfSome};
 ghost use Rattle.text.specs.Ascii.{line_length, after_line};
 ghost use Rattle.std.specs.List.{position};
-ghost use Rattle.words.specs.Words.{gap, ends, words_of};
+ghost use Rattle.words.specs.Words.{gap, ends, words_of, IsPart, Next};
 
 /// Whether a byte stands between words.
 #[tactic(auto, unfolding(crate::specs::Words::gap))]
@@ -35,7 +35,8 @@ fn word_end(line: &[u8]) -> Option<usize>
 
 /// The next word of a line, and the line behind it.
 pub fn next_word(line: &[u8]) -> Option<(&[u8], &[u8])>
-    ensures { MatchOption result (words_of line.now ≡ []) (λ p. words_of line.now ≡ p.0.now ∷ words_of p.1.now) }
+    ensures words { MatchOption result (words_of line.now ≡ []) (λ p. words_of line.now ≡ p.0.now ∷ words_of p.1.now) }
+    ensures stands { IfSome result (λ p. Next line.now p.0.now p.1.now) }
 {
     let start = word_start(line)?;
     let rest = &line[start..];
@@ -70,7 +71,8 @@ impl<'a> Iterator for Words<'a> {
 
 /// Word k of a line, counted from 0; empty where there are not so many.
 pub fn word(line: &[u8], k: usize) -> &[u8]
-    ensures { result.now ≡ get_or (words_of line.now) k [] }
+    ensures value { result.now ≡ get_or (words_of line.now) k [] }
+    ensures stands { IsPart line.now result.now }
 {
     Words(line).nth(k).unwrap_or(&[])
 }

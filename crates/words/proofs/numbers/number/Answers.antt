@@ -9,4 +9,4 @@ pub returns-clause-size_value : goal.returns-clause-size_value
 unfolding size
 returns-clause-size_value c =
     c.number.ensures.value_value ∙ ap (λ w. min 65536 (number 0 w)) c.unsigned.ensures
-    ∙ ap (λ w. min 65536 (number 0 (drop (sign w) w))) c.word-w.ensures
+    ∙ ap (λ w. min 65536 (number 0 (drop (sign w) w))) c.word-w.ensures.value

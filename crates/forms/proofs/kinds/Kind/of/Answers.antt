@@ -6,4 +6,4 @@ use Rattle.forms.proofs.kinds.Kind.of.Goals as goal
 
 pub returns : goal.returns
 unfolding kind_of
-returns c = c.named.ensures ∙ ap (place_in names) c.word.ensures
+returns c = c.named.ensures ∙ ap (place_in names) c.word.ensures.value
