@@ -1,6 +1,6 @@
 -- A rectangle whose question 19 holds: its line is one that the passes ask for, and what they make of it is its part of the values.
 -- Assumes nothing.
-use Rattle.std.proofs.Common.{ℕ, ◌+◌, ◌*◌, ◌/◌, ◌^◌, ◌≤◌, ◌<◌, le_trans, le_of_eq, arith, ◌≡◌, refl, ap, ◌∙◌, true, List, T, get_or}
+use Rattle.std.proofs.Common.{ℕ, ◌+◌, ◌*◌, ◌/◌, ◌^◌, ◌≤◌, ◌<◌, le_trans, le_of_eq, arith, ◌≡◌, refl, ap, ◌∙◌, true, List, ◌++◌, T, get_or, drop}
 use Rattle.arith.specs.All.{all}
 use Rattle.arith.specs.Part.{pos_part, neg_part}
 use Rattle.arith.specs.Tab.{tab}
@@ -44,16 +44,20 @@ module _
 
   -- values of 32 bits with its share
   pub shared : (acc : List ℕ)
-      → tab (v.width + 16) (with_share d v.table.q3 (scale v.table) (λ i. get_or line i 0) acc)
-      ≡ tab (v.width + 16) (with_share d v.table.q3 (scale v.table) (line_of v k) acc)
-  shared acc = tab_cong (v.width + 16) (λ i l. rw (same_share d is v.table.q3 i) refl)
+      → tab (v.width + 16) (with_share d v.table.q3 (scale v.table) (λ i. get_or line i 0) acc) ++ drop (v.width + 16) acc
+      ≡ tab (v.width + 16) (with_share d v.table.q3 (scale v.table) (line_of v k) acc) ++ drop (v.width + 16) acc
+  shared acc =
+      ap (λ xs. xs ++ drop (v.width + 16) acc)
+      (tab_cong (v.width + 16) (λ i l. rw (same_share d is v.table.q3 i) refl))
 
   -- values of 64 bits with its part
   pub parted : (acc : List ℕ)
-      → tab v.width (with_line d v.table.q3 (scale v.table) (λ i. get_or line i 0) acc) ≡ tab v.width (with_part v k acc)
+      → tab v.width (with_line d v.table.q3 (scale v.table) (λ i. get_or line i 0) acc) ++ drop v.width acc
+      ≡ tab v.width (with_part v k acc) ++ drop v.width acc
   unfolding scaled_at
   parted acc =
-      tab_cong v.width
+      ap (λ xs. xs ++ drop v.width acc)
+      (tab_cong v.width
       (λ c l.
       ap (λ x. plus (get_or acc c 0) (pos_part d.weight) (neg_part d.weight) (x / 2 ^ v.table.q3 * 2 ^ scale v.table))
-      (same_window d is (17 + c) ∙ window_at_lem v k ((granted v.table a).bounds k h).col c))
+      (same_window d is (17 + c) ∙ window_at_lem v k ((granted v.table a).bounds k h).col c)))

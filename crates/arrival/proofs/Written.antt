@@ -1,6 +1,6 @@
 -- Truncated column sums written into a padded line: the line of the rectangle, padded still.
 -- Assumes nothing.
-use Rattle.std.proofs.Common.{ℕ, ◌+◌, ◌-◌, ◌/◌, ◌^◌, ◌≤◌, ◌<◌, arith, ◌≡◌, sym, ap, ap₂, ◌∙◌, Bool, true, false, cond, not, List, T, ltb, ltb→lt, nltb→le, length, get_or}
+use Rattle.std.proofs.Common.{ℕ, ◌+◌, ◌-◌, ◌/◌, ◌^◌, ◌≤◌, ◌<◌, arith, ◌≡◌, sym, ap, ap₂, ◌∙◌, Bool, true, false, cond, not, List, ◌++◌, T, ltb, ltb→lt, nltb→le, length, get_or, take, drop, length-take-le}
 use Rattle.std.proofs.Math.Nat.{zero-div}
 use borrow.Rule.Slice.PartMut.{put_mid}
 use Rattle.arith.specs.Tab.{tab}
@@ -64,3 +64,8 @@ line_renewed p l xs {ys} {f} h e i =
 -- what a pass over a whole line leaves
 pub tab_by : {A : Type 0} {n m : ℕ} {f g : ℕ → A} {ys : List A} → ys ≡ tab n f → n ≡ m → ((c : ℕ) → c < m → f c ≡ g c) → ys ≡ tab m g
 tab_by {A} {n} {m} {f} e l i = e ∙ ap (λ n. tab n f) l ∙ tab_cong m i
+
+-- what a pass over the first n places of a list leaves
+pub first_by : {n : ℕ} (xs : List ℕ) {ys : List ℕ} {f g : ℕ → ℕ} → ys ≡ tab (length (take n xs)) f → n ≤ length xs
+    → ((c : ℕ) → c < n → f c ≡ g c) → ys ++ drop n xs ≡ tab n g ++ drop n xs
+first_by {n} xs e l i = ap (λ ys. ys ++ drop n xs) (tab_by e (length-take-le n xs l) i)

@@ -104,7 +104,7 @@ pub record LineFits (d : Rect) (q3 q width : ℕ) (line : List ℕ) : Type 0 whe
 
 -- values of 64 bits with room for one rectangle more
 pub record ValuesFit (width : ℕ) (acc : List ℕ) : Type 0 where
-  pub acc_long : length acc ≡ width
+  pub acc_long : width ≤ length acc
   pub value_least : (c : ℕ) → c < width → part_most ≤ get_or acc c 0
   pub value_at_most : (c : ℕ) → c < width → get_or acc c 0 ≤ value_most
 

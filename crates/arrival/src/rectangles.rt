@@ -1,5 +1,5 @@
 //! One rectangle of an arrival: its column sums are updated and asked, or rolled back, and its part is added to the values.
-ghost use Rattle.std.specs.Prelude.{◌≡◌, ◌+◌, ◌-◌, ◌*◌, ◌^◌, ◌≤◌, ◌<◌, negsuc, length, get_or, ◌≤ℤ◌};
+ghost use Rattle.std.specs.Prelude.{◌≡◌, ◌++◌, ◌+◌, ◌-◌, ◌*◌, ◌^◌, ◌≤◌, ◌<◌, negsuc, length, get_or, drop, ◌≤ℤ◌};
 ghost use borrow.Rule.Slice.PartMut.{put_mid};
 ghost use Rattle.arith.specs.Tab.{tab};
 ghost use Rattle.layout.specs.Contents.{rect};
@@ -60,9 +60,10 @@ impl Arriving<'_> {
     pub fn weigh(&self, k: usize, acc: &mut [u32], line: &mut [u32])
         requires few { k < self.now.table.now.count }
         requires line_fits { LineFits (rect self.now.table.now k) self.now.table.now.q3 (scale self.now.table.now) (length self.now.row.now) line.old }
-        requires acc_long { length acc.old ≡ length self.now.row.now + 16 }
+        requires acc_long { length self.now.row.now + 16 ≤ length acc.old }
         ensures acc_after { acc.new ≡ tab (length self.now.row.now + 16)
-            (with_share (rect self.now.table.now k) self.now.table.now.q3 (scale self.now.table.now) (λ i. get_or line.old i 0) acc.old) }
+            (with_share (rect self.now.table.now k) self.now.table.now.q3 (scale self.now.table.now) (λ i. get_or line.old i 0) acc.old)
+            ++ drop (length self.now.row.now + 16) acc.old }
         ensures padded { ZeroPadded (length self.now.row.now) line.new }
     {
         let q3 = self.table.q3;
@@ -73,6 +74,7 @@ impl Arriving<'_> {
         let n = width + 16;
         let lead = place_of(rect.leadcol);
         let trail = place_of(rect.trailcol);
+        let acc = &mut acc[..n];
         if q3 == 0 {
             weigh(acc, &line[lead..lead + n], &line[trail..trail + n], m, 0);
         } else {
@@ -89,7 +91,8 @@ impl Arriving<'_> {
         requires line_fits { LineFits (rect self.now.table.now k) self.now.table.now.q3 (scale self.now.table.now) (length self.now.row.now) line.old }
         requires room { ValuesFit (length self.now.row.now) acc.old }
         ensures acc_after { acc.new ≡ tab (length self.now.row.now)
-            (with_line (rect self.now.table.now k) self.now.table.now.q3 (scale self.now.table.now) (λ i. get_or line.old i 0) acc.old) }
+            (with_line (rect self.now.table.now k) self.now.table.now.q3 (scale self.now.table.now) (λ i. get_or line.old i 0) acc.old)
+            ++ drop (length self.now.row.now) acc.old }
         ensures padded { ZeroPadded (length self.now.row.now) line.new }
     {
         let rect = self.table.rects[k];
@@ -98,6 +101,7 @@ impl Arriving<'_> {
         let lead = place_of(rect.leadcol) + 16;
         let trail = place_of(rect.trailcol) + 16;
         let width = self.row.len();
+        let acc = &mut acc[..width];
         sum_line(line, width);
         accumulate(
             acc,

@@ -1,6 +1,6 @@
 -- Values of 64 bits, each above its bias: rectangle by rectangle, and their pixels.
 -- Assumes nothing.
-use Rattle.std.proofs.Common.{ℕ, ◌+◌, ◌-◌, ◌*◌, ◌^◌, ◌≤◌, ◌<◌, zero-le, arith, add-one, mul-le-mul, ◌≡◌, refl, ap, ◌∙◌, true, List, T, ℤ, pos, negsuc, ◌*ℤ◌, length, get_or, replicate, pow_mono}
+use Rattle.std.proofs.Common.{ℕ, ◌+◌, ◌-◌, ◌*◌, ◌^◌, ◌≤◌, ◌<◌, zero-le, arith, add-one, mul-le-mul, ◌≡◌, refl, ap, ◌∙◌, true, List, ◌++◌, T, ℤ, pos, negsuc, ◌*ℤ◌, length, get_or, drop, replicate, pow_mono}
 use Rattle.std.proofs.Math.ListN.{length-replicate, get_or-replicate}
 use Rattle.arith.specs.All.{all}
 use Rattle.arith.specs.Diff.{Diff}
@@ -10,7 +10,7 @@ use Rattle.arith.specs.Sum.{sum_ℤ}
 use Rattle.arith.specs.Tab.{tab}
 use Rattle.arith.specs.Twos.{fits_signed}
 use Rattle.arith.proofs.Ints.{diff_add, diff_eq, diff_parts, diff_scale, diff_shift, diff_sub, sum_ℤ-suc}
-use Rattle.arith.proofs.Tabs.{length-tab, get_or-tab}
+use Rattle.arith.proofs.Passes.{pass_done, pass_length}
 use Rattle.arith.proofs.Words.{fits_mag}
 use Rattle.layout.specs.Contents.{rect}
 use Rattle.limits.specs.Limits.{acceptable}
@@ -42,12 +42,12 @@ few_below : (v : Arrival) (k : ℕ) → acceptable v.table ≡ true → k < v.ta
 few_below v k e h = let f = (granted v.table e).few in omega arith
 
 -- no rectangle yet
-pub summed_none : (v : Arrival) → Summed v 0 (replicate v.width bias)
+pub summed_none : (v : Arrival) (n : ℕ) → v.width ≤ n → Summed v 0 (replicate n bias)
 unfolding sum_ℤ
-summed_none v =
-    let e : (c : ℕ) → c < v.width → ◌≡◌ {A = ℕ} (get_or (replicate v.width bias) c 0) bias = λ c h. get_or-replicate v.width c bias 0 h in
+summed_none v n l =
+    let e : (c : ℕ) → c < v.width → ◌≡◌ {A = ℕ} (get_or (replicate n bias) c 0) bias = λ c h. get_or-replicate n c bias 0 (omega arith) in
     record {
-      long = length-replicate {A = ℕ} v.width bias;
+      long = rw (length-replicate {A = ℕ} n bias) l;
       value = λ c h. rw (e c h) (record { is = refl });
       low = λ c h. rw (e c h) (omega arith);
       high = λ c h. rw (e c h) (omega arith);
@@ -94,17 +94,17 @@ module _
   next_high : (c : ℕ) → c < v.width → next c ≤ bias + (k + 1) * part_most
   next_high c p = let o = w.high c p in let a = above_le c in omega arith
 
-  pub summed_next : {acc' : List ℕ} → acc' ≡ tab v.width next → Summed v (k + 1) acc'
+  pub summed_next : {acc' : List ℕ} → acc' ≡ tab v.width next ++ drop v.width acc → Summed v (k + 1) acc'
   summed_next {acc'} is =
       record {
-        long = ap length is ∙ length-tab v.width next;
+        long = rw (ap length is ∙ pass_length v.width next acc w.long) w.long;
         value = λ c p. rw (at c p) (next_value c p);
         low = λ c p. rw (at c p) (next_low c p);
         high = λ c p. rw (at c p) (next_high c p);
       }
     where
       at : (c : ℕ) → c < v.width → get_or acc' c 0 ≡ next c
-      at c p = ap (λ xs. get_or xs c 0) is ∙ get_or-tab v.width next c 0 p
+      at c p = ap (λ xs. get_or xs c 0) is ∙ pass_done v.width next acc c 0 p
 
 -- the pixel of a complete value is that of the rule
 pub wide_pixel : (v : Arrival) {acc : List ℕ} → Summed v v.table.count acc → (c : ℕ) → c < v.width

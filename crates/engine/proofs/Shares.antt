@@ -1,6 +1,6 @@
 -- Values of 32 bits: the shares of all rectangles, modulo 2^32, are the value, and its pixel is that of the rule.
 -- Assumes nothing.
-use Rattle.std.proofs.Common.{ℕ, suc, ◌+◌, ◌*◌, ◌/◌, ◌%◌, ◌^◌, ◌<◌, div-one, arith, add-one, ◌≡◌, refl, sym, ap, subst, ◌∙◌, Bool, true, false, cond, List, T, eqb, eqb→eq, ℤ, pos, negsuc, length, get_or, replicate}
+use Rattle.std.proofs.Common.{ℕ, suc, ◌+◌, ◌*◌, ◌/◌, ◌%◌, ◌^◌, ◌≤◌, ◌<◌, div-one, arith, add-one, ◌≡◌, refl, sym, ap, subst, ◌∙◌, Bool, true, false, cond, List, ◌++◌, T, eqb, eqb→eq, ℤ, pos, negsuc, length, get_or, drop, replicate}
 use Rattle.std.proofs.Math.Nat.{mod-add-mod}
 use Rattle.std.proofs.Math.ListN.{length-replicate, get_or-replicate}
 use Rattle.arith.specs.All.{all}
@@ -10,7 +10,7 @@ use Rattle.arith.specs.Sum.{sum}
 use Rattle.arith.specs.Tab.{tab}
 use Rattle.arith.specs.Twos.{fits_signed}
 use Rattle.arith.proofs.Ints.{diff_parts, diff_scale, diff_sum}
-use Rattle.arith.proofs.Tabs.{length-tab, get_or-tab}
+use Rattle.arith.proofs.Passes.{pass_done, pass_length}
 use Rattle.arith.proofs.Residues.{rest_products, signed_rest}
 use Rattle.arith.proofs.Sums.{sum-add, sum_cong, sum_scale, sum-suc}
 use Rattle.layout.specs.declared.Table.{Table}
@@ -29,22 +29,22 @@ use Rattle.arrival.proofs.Windows.{summed}
 
 -- ---- the accumulator, rectangle by rectangle
 
-pub weighed_none : (v : Arrival) → Weighed v 0 (replicate (v.width + 16) 0)
+pub weighed_none : (v : Arrival) (n : ℕ) → v.width + 16 ≤ n → Weighed v 0 (replicate n 0)
 unfolding shares sum
-weighed_none v =
-    record { long = length-replicate {A = ℕ} (v.width + 16) 0; value = λ i l. get_or-replicate (v.width + 16) i 0 0 l }
+weighed_none v n h =
+    record { long = rw (length-replicate {A = ℕ} n 0) h; value = λ i l. get_or-replicate n i 0 0 (omega arith) }
 
 pub weighed_next :
     (v : Arrival) (k : ℕ) {acc acc' : List ℕ} → Weighed v k acc
-    → acc' ≡ tab (v.width + 16) (with_share (rect v.table k) v.table.q3 (scale v.table) (line_of v k) acc)
+    → acc' ≡ tab (v.width + 16) (with_share (rect v.table k) v.table.q3 (scale v.table) (line_of v k) acc) ++ drop (v.width + 16) acc
     → Weighed v (k + 1) acc'
 unfolding shares
 weighed_next v k {acc} {acc'} w is =
     record {
-      long = ap length is ∙ length-tab n next;
+      long = rw (ap length is ∙ pass_length n next acc w.long) w.long;
       value =
           λ i h.
-          ap (λ xs. get_or xs i 0) is ∙ get_or-tab n next i 0 h
+          ap (λ xs. get_or xs i 0) is ∙ pass_done n next acc i 0 h
           ∙ ap (λ a. (a + part i) % 4294967296) (w.value i h)
           ∙ mod-add-mod (shares v k i) 4294967296 (part i)
           ∙ ap (λ a. a % 4294967296) (sym (sum-suc k (λ j. term j i)) ∙ ap (λ m. sum m (λ j. term j i)) (sym (add-one k)));

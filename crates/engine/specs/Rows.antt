@@ -25,7 +25,7 @@ shares v k i =
 
 -- the accumulator holds the shares of the first k rectangles
 pub record Weighed (v : Arrival) (k : ℕ) (acc : List ℕ) : Type 0 where
-  pub long : length acc ≡ v.width + 16
+  pub long : v.width + 16 ≤ length acc
   pub value : (i : ℕ) → i < v.width + 16 → get_or acc i 0 ≡ shares v k i % 4294967296
 
 -- on any stores whose sums pass question 19, every value of the table has 32 bits
@@ -36,7 +36,7 @@ narrow_table t = areas_fit t 0 32
 
 -- the accumulator holds the values of the first k rectangles
 pub record Summed (v : Arrival) (k : ℕ) (acc : List ℕ) : Type 0 where
-  pub long : length acc ≡ v.width
+  pub long : v.width ≤ length acc
   pub value : (c : ℕ) → c < v.width → Diff (sum_ℤ k (λ i. (rect v.table i).weight *ℤ pos (scaled_at v i c))) (get_or acc c 0) bias
   pub low : (c : ℕ) → c < v.width → bias ≤ get_or acc c 0 + k * part_most
   pub high : (c : ℕ) → c < v.width → get_or acc c 0 ≤ bias + k * part_most

@@ -75,8 +75,7 @@ fn take_longs(
 {
     let mut values = [BIAS; 1024];
     let mut line = [0u32; 1072];
-    let acc = &mut values[..arriving.row.len()];
-    take(arriving, sure, acc, &mut line, sums, out)
+    take(arriving, sure, &mut values, &mut line, sums, out)
 }
 
 /// An arrival with the values and the lines that its table and its width need.

@@ -76,11 +76,13 @@ impl Value for u64 {
     }
 
     fn write(arriving: &Arriving, sure: bool, values: &mut [u64], out: &mut [i32]) -> bool {
+        let width = arriving.row.len();
         let t = arriving.table;
-        if !sure && !fit_wide(values, t.t, t.w) {
+        let due = &values[..width];
+        if !sure && !fit_wide(due, t.t, t.w) {
             return false;
         }
-        write_wide(&mut out[..values.len()], values, t.t);
+        write_wide(&mut out[..width], due, t.t);
         true
     }
 }

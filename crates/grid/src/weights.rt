@@ -25,7 +25,11 @@ fn entry_share(d: Rect, a: u32, b: u32) -> PartSums
     ensures high_value { (result.high ≡ pos_part d.weight * factor d a b) × (result.low ≡ neg_part d.weight * factor d a b) }
     ensures high_le_weight_most { (result.high ≤ weight_most) × (result.low ≤ weight_most) }
 {
-    PartSums::of(if covers_both(d, a, b) { d.weight } else { 0 })
+    if covers_both(d, a, b) {
+        PartSums::of(d.weight)
+    } else {
+        PartSums { high: 0, low: 0 }
+    }
 }
 
 /// The entry of a table's grid at row offset a and column offset b: the positive weights there added up, and the negative ones.

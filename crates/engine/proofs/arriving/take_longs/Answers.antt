@@ -1,7 +1,5 @@
 -- The local line at its start is zeros, and each value is at its bias.
 use Rattle.std.proofs.Common.{arith, length}
-use Rattle.std.proofs.lemmas.List.{take-replicate}
-use Rattle.passes.specs.Passes.{bias}
 use Rattle.arrival.specs.Arriving.{arrival}
 use Rattle.engine.proofs.Biased.{summed_none}
 use Rattle.engine.proofs.Starts.{padded_none}
@@ -9,8 +7,7 @@ use Rattle.engine.proofs.arriving.take_longs.Goals as goal
 
 pub take-requires-clause-held : goal.take-requires-clause-held
 take-requires-clause-held c =
-    let a = c.args.arriving.now in
-    rw (take-replicate (length a.row.now) 1024 bias a.width_most) (summed_none (arrival a c.args.sums.now))
+    let a = c.args.arriving.now in summed_none (arrival a c.args.sums.now) 1024 a.width_most
 
 pub take-requires-clause-padded : goal.take-requires-clause-padded
 take-requires-clause-padded c = let a = c.args.arriving.now in let l = a.width_most in padded_none (length a.row.now) 1072 (omega arith)

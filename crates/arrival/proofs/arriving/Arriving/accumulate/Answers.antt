@@ -1,6 +1,6 @@
 -- `Arriving::accumulate` makes the line its running sums and reads them from the places of the rectangle's edges on: their
 -- difference is the window sum of each column.
-use Rattle.std.proofs.Common.{ℕ, ◌+◌, ◌≤◌, ◌<◌, le_of_eq, arith, rules, ◌≡◌, sym, ◌∙◌, List, length, ℤ, pos, negsuc, to_z-of_z}
+use Rattle.std.proofs.Common.{ℕ, ◌+◌, ◌≤◌, ◌<◌, le_of_eq, arith, rules, ◌≡◌, sym, ◌∙◌, List, length, get_or, take, length-take-le, get_or-take, ℤ, pos, negsuc, to_z-of_z}
 use mir.Syntax.{w8, w16}
 use mir.Val.{SFits}
 use Rattle.arith.specs.Part.{pos_part, neg_part}
@@ -12,7 +12,8 @@ use Rattle.limits.proofs.Granted.{granted}
 use Rattle.arrival.specs.Rectangles.{place, scale, RunningSums}
 use Rattle.arrival.proofs.Places.{lead_least, lead_most, trail_least, trail_most}
 use Rattle.arrival.proofs.Reaches.{scaled_window, with_window, unpadded}
-use Rattle.arrival.proofs.Written.{tab_by}
+use Rattle.arrival.proofs.Alike.{first_line}
+use Rattle.arrival.proofs.Written.{first_by}
 use Rattle.arrival.proofs.arriving.Arriving.accumulate.Goals as goal
 
 -- of the two parts of an integer one is 0
@@ -102,7 +103,7 @@ accumulate-requires c =
     let e = rw (to_z-of_z weight-fits) at p.above_value in
     let r = c.requires.room in
     let f = c.requires.line_fits in
-    let long = r.acc_long in
+    let long = length-take-le w c.args.acc.now r.acc_long in
     record {
       lead_long = le_of_eq (long ∙ sym (part_length (c.place_of-lead.result + 16) w summed lead-ends));
       trail_long = le_of_eq (long ∙ sym (part_length (c.place_of-trail.result + 16) w summed trail-ends));
@@ -113,8 +114,8 @@ accumulate-requires c =
       one_sign = one-part d.weight e.0 e.1;
       small =
           λ n h. rw (c.dropped-q.ensures.value, scaled_window d a.table.now.q3 (scale a.table.now) w c.args.line.now f running lead_is trail_is n (omega arith)) (f.window (17 + n));
-      value_least = λ n h. r.value_least n (omega arith);
-      value_at_most = λ n h. r.value_at_most n (omega arith);
+      value_least = λ n h. let l : n < w = omega arith in rw (get_or-take w c.args.acc.now n 0 l) (r.value_least n l);
+      value_at_most = λ n h. let l : n < w = omega arith in rw (get_or-take w c.args.acc.now n 0 l) (r.value_at_most n l);
     }
 
 pub pad_line-requires : goal.pad_line-requires
@@ -139,5 +140,7 @@ returns-clause-acc_after c =
     let trail_is : c.place_of-trail.result ≡ place d.trailcol = rw (to_z-of_z trail-fits) at c.place_of-trail.ensures.value in
     let weight-fits : SFits w16 d.weight = search rules in
     let e = rw (to_z-of_z weight-fits) at c.sign_parts-p.ensures.above_value in
-    tab_by (rw c.dropped-q.ensures.value at c.accumulate.ensures) c.requires.room.acc_long
-    (with_window d a.table.now.q3 (scale a.table.now) w c.args.line.now c.requires.line_fits running c.args.acc.now e.0 e.1 lead_is trail_is)
+    let acc : List ℕ = take w c.args.acc.now in
+    let first = first_line d a.table.now.q3 (scale a.table.now) (λ i. get_or c.args.line.now i 0) w c.args.acc.now in
+    first_by c.args.acc.now (rw c.dropped-q.ensures.value at c.accumulate.ensures) c.requires.room.acc_long
+    (λ i h. with_window d a.table.now.q3 (scale a.table.now) w c.args.line.now c.requires.line_fits running acc e.0 e.1 lead_is trail_is i h ∙ first i h)

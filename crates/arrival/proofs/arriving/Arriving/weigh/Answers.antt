@@ -1,6 +1,6 @@
 -- `Arriving::weigh` reads the line from the places of the rectangle's edges on: what enters its window and what leaves it, or where
 -- the line is made its running sums their difference, the window sum.
-use Rattle.std.proofs.Common.{ℕ, ◌+◌, ◌≤◌, arith, rules, ◌≡◌, ap, ◌∙◌, List, length, to_z-of_z}
+use Rattle.std.proofs.Common.{ℕ, ◌+◌, ◌≤◌, arith, rules, ◌≡◌, ap, ◌∙◌, List, length, get_or, take, to_z-of_z}
 use mir.Syntax.{w8, w16}
 use mir.Val.{SFits}
 use Rattle.layout.specs.declared.Rect.{Rect}
@@ -10,7 +10,8 @@ use Rattle.limits.proofs.Granted.{granted}
 use Rattle.arrival.specs.Rectangles.{place, factor_of, scale, RunningSums}
 use Rattle.arrival.proofs.Places.{lead_least, lead_most, trail_least, trail_most}
 use Rattle.arrival.proofs.Reaches.{weigh_change, weigh_window, unpadded}
-use Rattle.arrival.proofs.Written.{tab_by}
+use Rattle.arrival.proofs.Alike.{first_share}
+use Rattle.arrival.proofs.Written.{first_by}
 use Rattle.arrival.proofs.arriving.Arriving.weigh.Goals as goal
 
 pub offset_bounds-self-k : goal.offset_bounds-self-k
@@ -123,8 +124,10 @@ returns-then-q3-eq0-clause-acc_after c =
     let lead_is : c.place_of-lead.result ≡ place d.leadcol = rw (to_z-of_z lead-fits) at c.place_of-lead.ensures.value in
     let trail-fits : SFits w8 d.trailcol = search rules in
     let trail_is : c.place_of-trail.result ≡ place d.trailcol = rw (to_z-of_z trail-fits) at c.place_of-trail.ensures.value in
-    tab_by c.weigh.ensures c.requires.acc_long
-    (weigh_change d a.table.now.q3 (scale a.table.now) w c.args.line.now c.requires.line_fits c.args.acc.now factor-is lead_is trail_is c.if-q3-eq0.true)
+    let acc : List ℕ = take (w + 16) c.args.acc.now in
+    let first = first_share d a.table.now.q3 (scale a.table.now) (λ i. get_or c.args.line.now i 0) (w + 16) c.args.acc.now in
+    first_by c.args.acc.now c.weigh.ensures c.requires.acc_long
+    (λ i h. weigh_change d a.table.now.q3 (scale a.table.now) w c.args.line.now c.requires.line_fits acc factor-is lead_is trail_is c.if-q3-eq0.true i h ∙ first i h)
 
 pub returns-else-q3-eq0-clause-acc_after : goal.returns-else-q3-eq0-clause-acc_after
 returns-else-q3-eq0-clause-acc_after c =
@@ -139,5 +142,7 @@ returns-else-q3-eq0-clause-acc_after c =
     let trail_is : c.place_of-trail.result ≡ place d.trailcol = rw (to_z-of_z trail-fits) at c.place_of-trail.ensures.value in
     let summed : List ℕ = c.sum_line.new.line in
     let running : RunningSums w c.args.line.now summed = c.sum_line.ensures in
-    tab_by c.weigh-else-q3-eq0.ensures c.requires.acc_long
-    (weigh_window d a.table.now.q3 (scale a.table.now) w c.args.line.now c.requires.line_fits c.args.acc.now factor-is lead_is trail_is running c.if-q3-eq0.false)
+    let acc : List ℕ = take (w + 16) c.args.acc.now in
+    let first = first_share d a.table.now.q3 (scale a.table.now) (λ i. get_or c.args.line.now i 0) (w + 16) c.args.acc.now in
+    first_by c.args.acc.now c.weigh-else-q3-eq0.ensures c.requires.acc_long
+    (λ i h. weigh_window d a.table.now.q3 (scale a.table.now) w c.args.line.now c.requires.line_fits acc factor-is lead_is trail_is running c.if-q3-eq0.false i h ∙ first i h)

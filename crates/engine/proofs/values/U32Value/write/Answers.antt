@@ -1,6 +1,6 @@
 -- The pixels of values of 32 bits, or where q3 is 0 of their running sums, from place 16 on where they fit their words, which is asked
 -- where it is not sure.
-use Rattle.std.proofs.Common.{ℕ, ◌+◌, ◌<◌, arith, ◌≡◌, sym, ap, ◌∙◌, true, cond, List, ◌++◌, length, get_or, drop, eqb, eq-eqb, ne_eqb}
+use Rattle.std.proofs.Common.{ℕ, ◌+◌, ◌≤◌, ◌<◌, arith, ◌≡◌, sym, ap, ◌∙◌, true, cond, List, ◌++◌, length, get_or, drop, eqb, eq-eqb, ne_eqb}
 use Rattle.std.proofs.lemmas.List.{length-take-le}
 use Rattle.arith.specs.All.{all}
 use Rattle.arith.specs.Tab.{tab}
@@ -25,7 +25,7 @@ record Holds (width q3 : ℕ) (acc acc' : List ℕ) : Type 0 where
   at : (i : ℕ) → i < width + 16 → get_or acc' i 0 ≡ cond (eqb q3 0) (running acc i) (get_or acc i 0)
 
 module _ (width q3 : ℕ) (acc : List ℕ) {acc' : List ℕ} where
-  summed : length acc ≡ width + 16 → q3 ≡ 0 → acc' ≡ tab (length acc) (running acc) → Holds width q3 acc acc'
+  summed : width + 16 ≤ length acc → q3 ≡ 0 → acc' ≡ tab (length acc) (running acc) → Holds width q3 acc acc'
   summed l z is =
       record {
         at =
