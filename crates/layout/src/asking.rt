@@ -1,5 +1,5 @@
 //! The questions that the calls ask, and what a no comes to.
-ghost use Rattle.std.specs.Prelude.{◌≡◌};
+ghost use Rattle.std.specs.Prelude.{◌≡◌, ℕ};
 
 /// A question of the rules, with its number. A call asks its questions in the rules' order and ends at the first no.
 #[derive(Clone, Copy, Debug, PartialEq, Eq)]
@@ -93,5 +93,51 @@ impl Refusal {
         } else {
             Err(Refusal { question, place })
         }
+    }
+}
+
+/// What a refusal is by: the number of the question and the place of the no, whatever holds them.
+pub trait Numbered: Copy {
+    ghost number_said: { Self → ℕ };
+
+    ghost place_said: { Self → ℕ };
+
+    /// The number.
+    fn number(self) -> u32
+        ensures { result ≡ number_said self };
+
+    /// The place.
+    fn place(self) -> u32
+        ensures { result ≡ place_said self };
+}
+
+impl Numbered for Refusal {
+    ghost use Rattle.layout.specs.Questions.{number_of};
+
+    ghost number_said = { λ r. number_of r.question };
+
+    ghost place_said = { λ r. r.place };
+
+    fn number(self) -> u32 {
+        self.question.number()
+    }
+
+    fn place(self) -> u32 {
+        self.place
+    }
+}
+
+/// A number and a place, of any question or of none.
+impl Numbered for (u32, u32) {
+    ghost number_said = { λ p. p.0 };
+
+    ghost place_said = { λ p. p.1 };
+
+    fn number(self) -> u32 {
+        self.0
+    }
+
+    fn place(self) -> u32 {
+        self.1
     }
 }

@@ -6,6 +6,7 @@
 //!   column_word, window_word  the word lengths of a rectangle, formulas (6) and (7)
 //!   delay                     D, the delay of a table
 //!   Question, Refusal         the question that a call answered no, and its place; `Refusal::unless` asks one
+//!   Numbered                  whatever has the number and the place of a refusal
 //!   Answer, Closing           what a row or a closing step comes to
 //!   due_row, due_step         what an arrival answers with a delay: a row, or waiting
 #![tactic(auto)]
@@ -14,7 +15,7 @@ mod asking;
 mod dues;
 mod measure;
 
-pub use asking::{Question, Refusal};
+pub use asking::{Numbered, Question, Refusal};
 pub use dues::{due_row, due_step};
 
 /// A rectangle: rows r + trailrow + 1 to r + leadrow and columns c + trailcol + 1 to c + leadcol of a

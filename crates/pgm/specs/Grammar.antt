@@ -83,3 +83,12 @@ magic bs = eqb (get_or bs 0 0) 80 && (eqb (get_or bs 1 0) 53 && in_gap false (ge
 -- what the first bytes of a file come to
 unfoldable pub header_of : List ℕ → Result Opening NoHeader
 header_of bs = cond (leb 3 (length bs)) (cond (magic bs) (numbers_of bs) (Err Foreign)) (Err More)
+
+-- number k of a header does not begin at a byte: 0 is the width, 1 the height, 2 the maxval, and from 3 on the white space after them
+unfoldable pub bad_of : (k at : ℕ) → NoHeader
+bad_of k at =
+    cond (eqb k 0) (Bad Width at) (cond (eqb k 1) (Bad Height at) (cond (eqb k 2) (Bad Maxval at) (Unended at)))
+
+-- number k of a header, which begins at a byte, is too large: from 2 on it is the maxval
+unfoldable pub large_of : (k at : ℕ) → NoHeader
+large_of k at = cond (eqb k 0) (Large Width at) (cond (eqb k 1) (Large Height at) (Large Maxval at))

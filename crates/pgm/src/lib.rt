@@ -71,3 +71,32 @@ pub enum NoHeader {
     /// it is no white space that stands at this byte, after the last number
     Unended(usize),
 }
+
+impl NoHeader {
+    ghost use Rattle.pgm.specs.Grammar.{bad_of, large_of};
+
+    /// Number k of a header does not begin at this byte: the width, the height, the maxval, and from 3 on the white space after them.
+    #[tactic(auto, unfolding(crate::specs::Grammar::bad_of))]
+    pub fn bad(k: u32, at: usize) -> NoHeader
+        ensures { result ≡ bad_of k at }
+    {
+        match k {
+            0 => NoHeader::Bad(Entry::Width, at),
+            1 => NoHeader::Bad(Entry::Height, at),
+            2 => NoHeader::Bad(Entry::Maxval, at),
+            _ => NoHeader::Unended(at),
+        }
+    }
+
+    /// Number k of a header, which begins at this byte, is above 65,535: the width, the height, and from 2 on the maxval.
+    #[tactic(auto, unfolding(crate::specs::Grammar::large_of))]
+    pub fn large(k: u32, at: usize) -> NoHeader
+        ensures { result ≡ large_of k at }
+    {
+        match k {
+            0 => NoHeader::Large(Entry::Width, at),
+            1 => NoHeader::Large(Entry::Height, at),
+            _ => NoHeader::Large(Entry::Maxval, at),
+        }
+    }
+}
