@@ -7,7 +7,6 @@ use Rattle.text.proofs.Puts.{put_then}
 use Rattle.text.specs.Ascii.{ascii, line_length, after_line, line, lines}
 use Rattle.refusals.specs.Sentences.{sentences, refusal_text}
 use Rattle.pgm.specs.declared.Entry.TheVariants.{Width}
-use Rattle.layout.specs.declared.asking.Question.TheVariants.{Bits}
 use Rattle.filtering.specs.declared.Fault.TheVariants.{Table, Cut, Bad}
 use Rattle.filtering.specs.Messages.{fault_text}
 
@@ -17,7 +16,7 @@ pub put_joined :
 put_joined {s} w n p q = rw (append_assoc s w n) (put_then p q)
 
 -- a table whose b is wrong; a scan that ends in row 7; a header with no width
-table_3 : fault_text (Table Bits) ≡ ascii "table refused, 3: b is not from 1 to 12\n"
+table_3 : fault_text (Table 3) ≡ ascii "table refused, 3: b is not from 1 to 12\n"
 unfolding ascii digits line_length after_line line lines sentences refusal_text
 table_3 = refl
 

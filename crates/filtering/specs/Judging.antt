@@ -1,8 +1,6 @@
 -- Which tables, headers and rows are taken, and what is wrong with the others.
 -- Assumes nothing.
 use Rattle.std.specs.Prelude.{ℕ, ◌*◌, ◌%◌, ◌^◌, ◌≤◌, ◌≡◌, Bool, cond, leb, ltb, eqb, Result, Ok, Err}
-use Rattle.layout.specs.declared.asking.Refusal.{Refusal}
-use Rattle.layout.specs.Questions.{number_of}
 use Rattle.rule.specs.Questions.{width_good}
 use Rattle.pgm.specs.declared.Opening.{Opening}
 use Rattle.pgm.specs.declared.NoHeader.{NoHeader}
@@ -27,10 +25,10 @@ use Rattle.filtering.specs.declared.Fault.TheVariants.{
   Engine,
 }
 
--- a table file of n bytes
-unfoldable pub table_fault_of : {A : Type 0} → Result A Refusal → (n : ℕ) → Result A Fault
-table_fault_of (Ok table) n = cond (eqb n 0) (Err NoTable) (Ok table)
-table_fault_of (Err refusal) n = cond (eqb n 0) (Err NoTable) (Err (Table refusal.question))
+-- a table file of n bytes, refused by what has a number
+unfoldable pub table_fault_of : {A R : Type 0} → (number : R → ℕ) → Result A R → (n : ℕ) → Result A Fault
+table_fault_of number (Ok table) n = cond (eqb n 0) (Err NoTable) (Ok table)
+table_fault_of number (Err refusal) n = cond (eqb n 0) (Err NoTable) (Err (Table (number refusal)))
 
 -- samples up to the maxval fit b bits
 unfoldable pub maxval_fits : (maxval b : ℕ) → Bool
@@ -57,6 +55,14 @@ whole_of b width height maxval =
     (cond (maxval_fits maxval b) (cond (width_good width) (Ok (job_of width height maxval)) (Err (Width width))) (Err (Bits maxval b)))
     (Err (Maxval maxval)))
 
+-- no header: one that goes on is cut off
+abbrev pub header_fault : NoHeader → Fault
+header_fault More = CutHeader
+header_fault NoPgm = Foreign
+header_fault (BadNumber entry at) = Bad entry at
+header_fault (NotEnded at) = Unended at
+header_fault (LargeNumber entry at) = Large entry at
+
 -- what the first n bytes of the scan come to, for samples of b bits
 unfoldable pub judged_of : (b : ℕ) → Result Opening NoHeader → (n : ℕ) → Result Job Fault
 judged_of b (Ok opening) n = whole_of b opening.width opening.height opening.maxval
@@ -67,7 +73,7 @@ judged_of b (Err (NotEnded at)) n = Err (Unended at)
 judged_of b (Err (LargeNumber entry at)) n = Err (Large entry at)
 
 -- rows that were read: the engine's refusal comes first; then a sample above the maxval, at `place` of `count` samples
-unfoldable pub row_fault_of : Result (Unit {0}) Refusal → Job → (rows place count : ℕ) → Result (Unit {0}) Fault
-row_fault_of (Err refusal) job rows place count = Err (Engine (number_of refusal.question) refusal.place)
-row_fault_of (Ok taken) job rows place count =
+unfoldable pub row_fault_of : {R : Type 0} → (number_of place_of : R → ℕ) → Result (Unit {0}) R → Job → (rows place count : ℕ) → Result (Unit {0}) Fault
+row_fault_of number_of place_of (Err refusal) job rows place count = Err (Engine (number_of refusal) (place_of refusal))
+row_fault_of number_of place_of (Ok taken) job rows place count =
     cond (leb count place) (Ok tt) (cond (eqb job.width 0) (Ok tt) (Err (Sample rows (place % job.width) job.maxval)))

@@ -1,9 +1,8 @@
 -- What is said, byte for byte.
 -- Assumes nothing.
-use Rattle.std.specs.Prelude.{ℕ, List, [], ◌∷◌, ◌++◌, codes}
+use Rattle.std.specs.Prelude.{ℕ, Option, Some, None, List, [], ◌∷◌, ◌++◌, codes}
 use Rattle.std.specs.Fmt.{decimal}
 use Rattle.text.specs.Ascii.{lines}
-use Rattle.layout.specs.Questions.{number_of}
 use Rattle.refusals.specs.Sentences.{refusal_text}
 use Rattle.pgm.specs.Text.{entry_name}
 use Rattle.filtering.specs.declared.Fault.{Fault}
@@ -30,8 +29,7 @@ use Rattle.commands.specs.declared.Command.TheVariants.{Filter, Ranked, Help, Ve
 -- a fault, after the name of what it is a fault of; the number of a refusal comes before its words
 abbrev pub fault_text : Fault → List ℕ
 fault_text NoTable = codes "table refused, 1: the file is empty\n"
-fault_text (Table question) =
-    codes "table refused, " ++ decimal (number_of question) ++ codes ": " ++ refusal_text (number_of question) ++ codes "\n"
+fault_text (Table number) = codes "table refused, " ++ decimal number ++ codes ": " ++ refusal_text number ++ codes "\n"
 fault_text Empty = codes "the input is empty\n"
 fault_text CutHeader = codes "the header is cut off, or longer than 4096 bytes\n"
 fault_text Foreign = codes "not a binary PGM: it does not begin with P5 and white space\n"
@@ -48,6 +46,11 @@ fault_text (Sample row column n) =
     codes "row " ++ decimal row ++ codes ", column " ++ decimal column ++ codes ": the sample is above the maxval " ++ decimal n ++ codes "\n"
 fault_text (Engine number place) =
     codes "the engine refused, " ++ decimal number ++ codes ", place " ++ decimal place ++ codes ": " ++ refusal_text number ++ codes "\n"
+
+-- the line for a fault, or for none
+abbrev pub line_text : Option Fault → List ℕ
+line_text (Some fault) = fault_text fault
+line_text None = codes "\n"
 
 -- what is answered to a command line that asks for no filtering
 unfoldable pub answer_text : Command → List ℕ

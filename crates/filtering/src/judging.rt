@@ -1,23 +1,23 @@
 //! Whether the table file, the scan's header and its rows are taken.
 ghost use Rattle.std.specs.Prelude.{◌≡◌, ◌*◌, ◌≤◌};
 ghost use Rattle.pgm.specs.Raster.{sample_bytes};
-ghost use Rattle.filtering.specs.Judging.{maxval_fits, whole_of, judged_of, table_fault_of, row_fault_of};
+ghost use Rattle.filtering.specs.Judging.{maxval_fits, whole_of, header_fault, judged_of, table_fault_of, row_fault_of};
 
 use crate::{Fault, Job};
-use layout::{Refusal, Table};
+use layout::Numbered;
 use pgm::{NoHeader, Opening};
 
-/// The table of a file of n bytes that loading answered so, or what is wrong with it.
+/// What a file of n bytes that was loaded so comes to: the table; or what is wrong with it, whatever refused it.
 #[tactic(auto, unfolding(crate::specs::Judging::table_fault_of))]
-pub fn table_fault(loaded: Result<Table, Refusal>, n: usize) -> Result<Table, Fault>
-    ensures { result ≡ table_fault_of loaded n }
+pub fn table_fault<T: Drop, R: Numbered>(loaded: Result<T, R>, n: usize) -> Result<T, Fault>
+    ensures { result ≡ table_fault_of R.number_said loaded n }
 {
     if n == 0 {
         return Err(Fault::NoTable);
     }
     match loaded {
         Ok(table) => Ok(table),
-        Err(refusal) => Err(Fault::Table(refusal.question)),
+        Err(refusal) => Err(Fault::Table(refusal.number())),
     }
 }
 
@@ -64,6 +64,21 @@ fn whole(b: u8, width: u32, height: u32, maxval: u32) -> Result<Job, Fault>
     })
 }
 
+/// Of a header that is none yet, it says that it is cut off.
+impl From<NoHeader> for Fault {
+    ghost from_gives = { λ no fault. fault ≡ header_fault no };
+
+    fn from(no: NoHeader) -> Fault {
+        match no {
+            NoHeader::More => Fault::CutHeader,
+            NoHeader::Foreign => Fault::Foreign,
+            NoHeader::Bad(entry, at) => Fault::Bad(entry, at),
+            NoHeader::Unended(at) => Fault::Unended(at),
+            NoHeader::Large(entry, at) => Fault::Large(entry, at),
+        }
+    }
+}
+
 /// What the first n bytes of a scan come to, for samples of b bits.
 #[tactic(auto, unfolding(crate::specs::Judging::judged_of))]
 pub fn judge(b: u8, header: Result<Opening, NoHeader>, n: usize) -> Result<Job, Fault>
@@ -71,32 +86,25 @@ pub fn judge(b: u8, header: Result<Opening, NoHeader>, n: usize) -> Result<Job, 
 {
     match header {
         Ok(opening) => whole(b, opening.width, opening.height, opening.maxval),
-        Err(NoHeader::More) => Err(if n == 0 {
-            Fault::Empty
-        } else {
-            Fault::CutHeader
-        }),
-        Err(NoHeader::Foreign) => Err(Fault::Foreign),
-        Err(NoHeader::Bad(entry, at)) => Err(Fault::Bad(entry, at)),
-        Err(NoHeader::Unended(at)) => Err(Fault::Unended(at)),
-        Err(NoHeader::Large(entry, at)) => Err(Fault::Large(entry, at)),
+        Err(NoHeader::More) if n == 0 => Err(Fault::Empty),
+        Err(no) => Err(no.into()),
     }
 }
 
-/// What is wrong with rows that were read: the engine's refusal; or, where the lowest sample above the maxval stands at `place` of
-/// `count`, that sample, with the rows taken before its own.
+/// What is wrong with rows that were read: the engine's refusal, whatever it is by; or, where the lowest sample above the maxval
+/// stands at `place` of `count`, that sample, with the rows taken before its own.
 #[tactic(auto, unfolding(crate::specs::Judging::row_fault_of))]
-pub fn row_fault(
-    taken: Result<(), Refusal>,
+pub fn row_fault<R: Numbered>(
+    taken: Result<(), R>,
     job: Job,
     rows: u32,
     place: usize,
     count: usize,
 ) -> Result<(), Fault>
-    ensures { result ≡ row_fault_of taken job rows place count }
+    ensures { result ≡ row_fault_of R.number_said R.place_said taken job rows place count }
 {
     if let Err(refusal) = taken {
-        return Err(Fault::Engine(refusal.question.number(), refusal.place));
+        return Err(Fault::Engine(refusal.number(), refusal.place()));
     }
     if count <= place || job.width == 0 {
         return Ok(());

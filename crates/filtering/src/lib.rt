@@ -3,7 +3,7 @@
 //! or writes; the program moves the bytes between these calls.
 //!
 //!   table_fault, judge, row_fault  the table, the scan and its rows as they are taken, or what is wrong with them
-//!   put_fault, answer              the line for a fault, and the answers to --help, --version and a wrong command line
+//!   put_fault, answer              the line for a fault or for none, and the answers to --help, --version and a wrong command line
 //!   read_most, whole_part          how many bytes to read, and how many samples go to the engine
 //!   rows_left, packed, forward     what is still to come, what came out, and what is moved to the start of the store
 //!   centred                        the edges of a window of so many rows or columns around its place
@@ -15,7 +15,6 @@ mod saying;
 mod window;
 
 pub use judging::{judge, row_fault, table_fault};
-use layout::Question;
 pub use moving::{forward, packed, read_most, rows_left, whole_part};
 use pgm::Entry;
 pub use saying::{answer, put_fault};
@@ -42,8 +41,8 @@ pub struct Job {
 pub enum Fault {
     /// the table file has no bytes
     NoTable,
-    /// the table file is refused at this question
-    Table(Question),
+    /// the table file is refused with this number
+    Table(u32),
     /// the scan has no bytes
     Empty,
     /// its header is cut off

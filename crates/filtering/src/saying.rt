@@ -3,7 +3,7 @@ ghost use Rattle.std.specs.Prelude.{◌≡◌, ◌++◌, ◌+◌, ◌≤◌, len
 ghost use Rattle.std.specs.Fmt.{decimal};
 ghost use Rattle.text.specs.Text.{Put};
 ghost use Rattle.refusals.specs.Sentences.{refusal_text};
-ghost use Rattle.filtering.specs.Messages.{fault_text, answer_text};
+ghost use Rattle.filtering.specs.Messages.{fault_text, line_text, answer_text};
 
 use crate::Fault;
 use commands::Command;
@@ -37,14 +37,13 @@ fn put_sentence(out: &mut [u8], at: usize, number: u32) -> usize
     put_bytes(out, at, sentence(number).as_bytes())
 }
 
-/// Puts what is said of a fault at the start of out, and answers its length.
-pub fn put_fault(fault: Fault, out: &mut [u8; 4096]) -> usize
+/// Puts the line for a fault at the start of out, and answers its length.
+fn put_line(fault: Fault, out: &mut [u8; 4096]) -> usize
     ensures { Put out.old 0 (fault_text fault) out.new result }
 {
     match fault {
         Fault::NoTable => put_words(out, 0, b"table refused, 1: the file is empty\n"),
-        Fault::Table(question) => {
-            let number = question.number();
+        Fault::Table(number) => {
             let a = put_count(out, 0, b"table refused, ", u64::from(number));
             let a = put_words(out, a, b": ");
             let a = put_sentence(out, a, number);
@@ -110,6 +109,16 @@ pub fn put_fault(fault: Fault, out: &mut [u8; 4096]) -> usize
             let a = put_sentence(out, a, number);
             put_words(out, a, b"\n")
         }
+    }
+}
+
+/// Puts what is said of a fault at the start of out, an empty line of none, and answers its length.
+pub fn put_fault(fault: Option<Fault>, out: &mut [u8; 4096]) -> usize
+    ensures { Put out.old 0 (line_text fault) out.new result }
+{
+    match fault {
+        Some(fault) => put_line(fault, out),
+        None => put_words(out, 0, b"\n"),
     }
 }
 

@@ -12,7 +12,7 @@ use streams::put;
 /// A line on standard error: what a fault is a fault of, and the fault.
 pub fn report<E: Write>(errors: &mut E, what: &[u8], fault: Fault) {
     let mut text = [0u8; 4096];
-    let n = put_fault(fault, &mut text);
+    let n = put_fault(Some(fault), &mut text);
     let _ = errors.write_all(what);
     let _ = errors.write_all(b": ");
     let _ = errors.write_all(&text[..n]);

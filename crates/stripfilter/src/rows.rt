@@ -7,7 +7,7 @@ use crate::filters::Filter;
 use crate::output;
 use crate::output::{Plan, Unwritable};
 use filtering::Fault;
-use layout::Closing;
+use layout::{Closing, Refusal};
 use std::io::{Read, Write};
 use streams::{Got, fail, gather};
 
@@ -36,7 +36,7 @@ fn some_rows<F: Filter, S, O: Write, E: Write>(
     let good = filtering::whole_part(place, job.width);
     let taken = filter.take(job, &samples[..good], out);
     let written = output::rows(console, plan, out, taken.filtered);
-    let sample = filtering::row_fault(Ok(()), job, filter.rows(), place, n);
+    let sample = filtering::row_fault(Ok::<(), Refusal>(()), job, filter.rows(), place, n);
     if let Err(fault) = taken.verdict.and(sample) {
         output::report(&mut console.errors, b"scan", fault);
         return written.map(|()| Turn::Over);

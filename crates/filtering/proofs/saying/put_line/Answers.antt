@@ -4,13 +4,12 @@ use Rattle.std.specs.Prelude.{codes}
 use Rattle.std.specs.Fmt.{decimal}
 use Rattle.text.proofs.Puts.{put_then}
 use Rattle.filtering.proofs.Texts.{put_joined}
-use Rattle.filtering.proofs.saying.put_fault.Goals as goal
+use Rattle.filtering.proofs.saying.put_line.Goals as goal
 
 pub returns-in-Table : goal.returns-in-Table
 returns-in-Table c =
-    let number = rw (c.from.ensures, c.number-number.ensures) at c.put_count-a.ensures.put in
-    let sentence = rw c.number-number.ensures at c.put_sentence-a.ensures.put in
-    rw c.in-Table.is (put_then (put_then (put_then number c.put_words-a.ensures) sentence) c.put_words-in-Table.ensures)
+    let number = rw c.from.ensures at c.put_count-a.ensures.put in
+    rw c.in-Table.is (put_then (put_then (put_then number c.put_words-a.ensures) c.put_sentence-a.ensures.put) c.put_words-in-Table.ensures)
 
 pub returns-in-Bad : goal.returns-in-Bad
 returns-in-Bad c =
