@@ -9,7 +9,7 @@ use Rattle.commands.specs.declared.Word.TheVariants.{Values, Rank, Help as AskHe
 use Rattle.commands.specs.declared.Output.{Output}
 use Rattle.commands.specs.declared.Output.TheVariants.{Numbers}
 use Rattle.commands.specs.declared.Given.{Given}
-use Rattle.commands.specs.declared.Given.TheVariants.{Nothing, Rank as OneGiven, Rows as TwoGiven, All}
+use Rattle.commands.specs.declared.Given.TheVariants.{Nothing, Rank as OneGiven, Rows as TwoGiven, All, Beyond}
 use Rattle.commands.specs.declared.Command.{Command}
 use Rattle.commands.specs.declared.Command.TheVariants.{Filter as ByTable, Ranked as ByRank, Help, Version, Unknown, NoNumber, Usage}
 use Rattle.commands.specs.declared.Begun.{Begun}
@@ -29,9 +29,9 @@ word_of w =
     (cond (same w (ascii "--help")) AskHelp
     (cond (same w (ascii "-h")) AskHelp (cond (same w (ascii "--version")) AskVersion (plain_of w)))))
 
--- the word at place i names the table, if none is named yet
+-- the word at place i names the table, if none is named yet; the program's own, at place 0, names none
 abbrev pub table_at : Output → (table : Option ℕ) → (i : ℕ) → Begun
-table_at output None i = Filter output (Some i)
+table_at output None i = Filter output (cond (eqb i 0) None (Some i))
 table_at output (Some k) i = Settled Usage
 
 -- --rank, where no table is named: its three numbers follow
@@ -45,13 +45,15 @@ numbered_of output Nothing n = Ranked output (OneGiven n)
 numbered_of output (OneGiven rank) n = Ranked output (TwoGiven rank n)
 numbered_of output (TwoGiven rank rows) n = Ranked output (All (record { rank = rank; rows = rows; columns = n }))
 numbered_of output (All r) n = Settled Usage
+numbered_of output Beyond n = Settled Usage
 
--- a word that is no number, at place i: another name of a table after all three numbers
+-- a word that is no number, at place i: another name of a table after just the three numbers
 abbrev pub unnumbered : Given → (i : ℕ) → Command
 unnumbered Nothing i = NoNumber i
 unnumbered (OneGiven rank) i = NoNumber i
 unnumbered (TwoGiven rank rows) i = NoNumber i
 unnumbered (All r) i = Usage
+unnumbered Beyond i = NoNumber i
 
 -- one word more, at place i: options may stand before, between or after the others, and the first word that settles the matter does
 unfoldable pub next_of : Begun → (i : ℕ) → Word → Begun
@@ -81,6 +83,7 @@ by_rank output Nothing = Usage
 by_rank output (OneGiven rank) = Usage
 by_rank output (TwoGiven rank rows) = Usage
 by_rank output (All r) = ByRank output r
+by_rank output Beyond = Usage
 
 -- no more words: there must be a table, or three numbers
 unfoldable pub ended_of : Begun → Command

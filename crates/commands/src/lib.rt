@@ -43,6 +43,8 @@ pub enum Given {
     Rank(u32),
     Rows { rank: u32, rows: u32 },
     All(Ranking),
+    /// more than the three, which no words come to: then a number or the end is a usage error, and a name is no number
+    Beyond,
 }
 
 /// What the command line asks for.

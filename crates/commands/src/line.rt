@@ -62,7 +62,7 @@ fn numbered(output: Output, given: Given, n: u32) -> Begun
             rows,
             columns: n,
         }),
-        Given::All(_) => return Begun::Settled(Command::Usage),
+        Given::All(_) | Given::Beyond => return Begun::Settled(Command::Usage),
     };
     Begun::Ranked { output, given }
 }
@@ -84,7 +84,7 @@ impl Begun {
             },
             (Word::Number(_) | Word::Table, None) => Begun::Filter {
                 output,
-                table: Some(i),
+                table: (i > 0).then_some(i),
             },
             (Word::Rank | Word::Number(_) | Word::Table, Some(_)) => Begun::Settled(Command::Usage),
             (Word::Help, _) => Begun::Settled(Command::Help),
@@ -112,7 +112,8 @@ impl Begun {
         }
     }
 
-    /// What the words come to with one word more, at place i: the first word that settles it does.
+    /// What the words come to with one word more, at place i: the first word that settles it does. At place 0 is the program's own
+    /// name, which names no table.
     #[tactic(auto, unfolding(crate::specs::Commands::next_of))]
     pub fn next(self, i: usize, w: &[u8]) -> Begun
         ensures { result ≡ next_of self i (word_of w.now) }
