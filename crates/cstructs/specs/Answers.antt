@@ -1,8 +1,8 @@
 -- What C is handed: each struct of the header from what a call says and leaves.
 -- Assumes nothing.
-use Rattle.std.specs.Prelude.{ℕ, cond, ◌&&◌, List, eqb, length, get_or, ℤ, pos}
+use Rattle.std.specs.Prelude.{ℕ, cond, ◌&&◌, List, [], eqb, length, get_or, ℤ, pos, Result, Ok, Err}
 use Rattle.arith.specs.Part.{pos_part}
-use Rattle.layout.specs.Answers.{Said, Left, Wrote}
+use Rattle.layout.specs.Answers.{Said, refused, accepted, Left, Wrote}
 use Rattle.table.specs.Format.{Handed as Loading}
 use Rattle.scan.specs.declared.Scan.{Scan}
 use Rattle.scan.specs.Calls.{World}
@@ -15,6 +15,15 @@ use Rattle.cstructs.specs.declared.scans.ScanAnswer.{ScanAnswer}
 use Rattle.cstructs.specs.declared.bursts.BurstAnswer.{BurstAnswer}
 use Rattle.cstructs.specs.declared.pixels.PixelAnswer.{PixelAnswer}
 use Rattle.cstructs.specs.declared.sameness.SameAnswer.{SameAnswer}
+
+-- ---- what is said with a refusal of any number, by what has a number and a place
+
+abbrev pub result_by : {A R : Type 0} → (number place : R → ℕ) → (values : A → List ℤ) → Result A R → Said
+result_by number place values (Ok x) = accepted (values x)
+result_by number place values (Err r) = refused (number r) (place r)
+
+abbrev pub verdict_by : {R : Type 0} → (number place : R → ℕ) → Result (Unit {0}) R → Said
+verdict_by number place v = result_by number place (λ x. []) v
 
 -- ---- an answer, from what a call says, whose number and place are 0 but for a refusal
 

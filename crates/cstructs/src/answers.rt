@@ -1,9 +1,9 @@
 //! What the answers of several calls have in common, as C has it.
 ghost use Rattle.std.specs.Prelude.{◌≡◌};
-ghost use Rattle.layout.specs.Answers.{no_said, said, answer_said, closing_said};
-ghost use Rattle.cstructs.specs.Answers.{refusal_c, head_c};
+ghost use Rattle.layout.specs.Answers.{answer_said, closing_said};
+ghost use Rattle.cstructs.specs.Answers.{verdict_by, refusal_c, head_c};
 
-use layout::{Answer, Closing};
+use layout::{Answer, Closing, Numbered};
 
 /// The number and the place of a refusal, 0 and 0 where there is none.
 #[derive(Clone, Copy)]
@@ -12,23 +12,16 @@ pub struct Refusal {
     pub place: u32,
 }
 
-impl From<layout::Refusal> for Refusal {
-    ghost from_gives = { λ no r. r ≡ refusal_c (no_said no) };
-
-    fn from(no: layout::Refusal) -> Refusal {
-        Refusal {
-            number: no.question.number(),
-            place: no.place,
-        }
-    }
-}
-
-impl From<Result<(), layout::Refusal>> for Refusal {
-    ghost from_gives = { λ v r. r ≡ refusal_c (said v) };
-
-    fn from(verdict: Result<(), layout::Refusal>) -> Refusal {
+impl Refusal {
+    /// The refusal of a verdict, whatever refused.
+    pub fn new<R: Numbered>(verdict: Result<(), R>) -> Refusal
+        ensures { result ≡ refusal_c (verdict_by R.number_said R.place_said verdict) }
+    {
         match verdict {
-            Err(no) => no.into(),
+            Err(no) => Refusal {
+                number: no.number(),
+                place: no.place(),
+            },
             Ok(()) => Refusal {
                 number: 0,
                 place: 0,

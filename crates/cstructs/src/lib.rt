@@ -1,4 +1,4 @@
-//! Inner: the structs of the header include/strip.h, each made by `From` of what a call answers.
+//! Inner: the structs of the header include/strip.h, each made by `From` of what a call answers, or by `new` with a refusal of any number.
 #![tactic(auto)]
 
 mod answers;

@@ -1,9 +1,9 @@
 //! What the one-pixel call answers, as C has it.
-ghost use Rattle.std.specs.Prelude.{◌≡◌};
+ghost use Rattle.std.specs.Prelude.{◌≡◌, [], ◌∷◌};
 ghost use Rattle.pixel.specs.Call.{found_said};
-ghost use Rattle.cstructs.specs.Answers.{pixel_c};
+ghost use Rattle.cstructs.specs.Answers.{result_by, pixel_c};
 
-use layout::Refusal;
+use layout::{Numbered, Refusal};
 
 /// strip_pixel_answer
 #[repr(C)]
@@ -14,14 +14,15 @@ pub struct PixelAnswer {
     pub value: i32,
 }
 
-impl From<Result<i32, Refusal>> for PixelAnswer {
-    ghost from_gives = { λ f a. a ≡ pixel_c (found_said f) };
-
-    fn from(found: Result<i32, Refusal>) -> PixelAnswer {
+impl PixelAnswer {
+    /// A pixel, or the refusal, whatever refused.
+    pub fn new<R: Numbered>(found: Result<i32, R>) -> PixelAnswer
+        ensures { result ≡ pixel_c (result_by R.number_said R.place_said (λ z. z ∷ []) found) }
+    {
         match found {
             Err(no) => PixelAnswer {
-                refusal: no.question.number(),
-                place: no.place,
+                refusal: no.number(),
+                place: no.place(),
                 value: 0,
             },
             Ok(value) => PixelAnswer {
@@ -30,5 +31,13 @@ impl From<Result<i32, Refusal>> for PixelAnswer {
                 value,
             },
         }
+    }
+}
+
+impl From<Result<i32, Refusal>> for PixelAnswer {
+    ghost from_gives = { λ f a. a ≡ pixel_c (found_said f) };
+
+    fn from(found: Result<i32, Refusal>) -> PixelAnswer {
+        PixelAnswer::new(found)
     }
 }

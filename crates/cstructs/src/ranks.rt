@@ -1,9 +1,11 @@
 //! What a ranked scan answers row by row, as C has it.
 ghost use Rattle.std.specs.Prelude.{◌≡◌};
 ghost use Rattle.layout.specs.Answers.{said, answer_said, closing_said};
+ghost use Rattle.cstructs.specs.Answers.{verdict_by};
 ghost use Rattle.cstructs.specs.Ranks.{started_c, answer_c};
 
 use crate::answers::{Head, Refusal};
+use layout::Numbered;
 use rank::{Moved, RankScan, Started, Stepped};
 
 // (C) RankStarted and RankAnswer beside ScanStarted and ScanAnswer: the header names each, and an exported struct has no parameter.
@@ -26,16 +28,25 @@ pub struct RankAnswer {
     pub scan: RankScan,
 }
 
+impl RankStarted {
+    /// A start or a close, whatever refused it, and the scan after it.
+    pub fn new<R: Numbered>(verdict: Result<(), R>, scan: RankScan) -> RankStarted
+        ensures { result ≡ started_c (verdict_by R.number_said R.place_said verdict) scan }
+    {
+        let refusal = Refusal::new(verdict);
+        RankStarted {
+            refusal: refusal.number,
+            place: refusal.place,
+            scan,
+        }
+    }
+}
+
 impl From<Started> for RankStarted {
     ghost from_gives = { λ s a. a ≡ started_c (said s.verdict) s.scan };
 
     fn from(started: Started) -> RankStarted {
-        let refusal = Refusal::from(started.verdict);
-        RankStarted {
-            refusal: refusal.number,
-            place: refusal.place,
-            scan: started.scan,
-        }
+        RankStarted::new(started.verdict, started.scan)
     }
 }
 

@@ -1,9 +1,9 @@
 //! What comparing two tables answers, as C has it.
 ghost use Rattle.std.specs.Prelude.{◌≡◌};
-ghost use Rattle.same.specs.Same.{sameness_said};
-ghost use Rattle.cstructs.specs.Answers.{same_c};
+ghost use Rattle.same.specs.Same.{offset_values, sameness_said};
+ghost use Rattle.cstructs.specs.Answers.{result_by, same_c};
 
-use layout::Refusal;
+use layout::{Numbered, Refusal};
 use same::Offset;
 
 /// strip_same_answer
@@ -17,14 +17,15 @@ pub struct SameAnswer {
     pub col: i32,
 }
 
-impl From<Result<Option<Offset>, Refusal>> for SameAnswer {
-    ghost from_gives = { λ s a. a ≡ same_c (sameness_said s) };
-
-    fn from(found: Result<Option<Offset>, Refusal>) -> SameAnswer {
+impl SameAnswer {
+    /// Same, the offset, or the refusal, whatever refused.
+    pub fn new<R: Numbered>(found: Result<Option<Offset>, R>) -> SameAnswer
+        ensures { result ≡ same_c (result_by R.number_said R.place_said offset_values found) }
+    {
         match found {
             Err(no) => SameAnswer {
-                refusal: no.question.number(),
-                place: no.place,
+                refusal: no.number(),
+                place: no.place(),
                 same: false,
                 row: 0,
                 col: 0,
@@ -44,5 +45,13 @@ impl From<Result<Option<Offset>, Refusal>> for SameAnswer {
                 col: offset.col,
             },
         }
+    }
+}
+
+impl From<Result<Option<Offset>, Refusal>> for SameAnswer {
+    ghost from_gives = { λ s a. a ≡ same_c (sameness_said s) };
+
+    fn from(found: Result<Option<Offset>, Refusal>) -> SameAnswer {
+        SameAnswer::new(found)
     }
 }

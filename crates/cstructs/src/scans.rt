@@ -1,9 +1,10 @@
 //! What a scan answers row by row, as C has it.
 ghost use Rattle.std.specs.Prelude.{◌≡◌};
 ghost use Rattle.layout.specs.Answers.{said, answer_said, closing_said};
-ghost use Rattle.cstructs.specs.Answers.{started_c, answer_c};
+ghost use Rattle.cstructs.specs.Answers.{verdict_by, started_c, answer_c};
 
 use crate::answers::{Head, Refusal};
+use layout::Numbered;
 use scan::{Moved, Scan, Started, Stepped};
 
 /// strip_started
@@ -25,16 +26,25 @@ pub struct ScanAnswer {
     pub scan: Scan,
 }
 
+impl ScanStarted {
+    /// A start or a close, whatever refused it, and the scan after it.
+    pub fn new<R: Numbered>(verdict: Result<(), R>, scan: Scan) -> ScanStarted
+        ensures { result ≡ started_c (verdict_by R.number_said R.place_said verdict) scan }
+    {
+        let refusal = Refusal::new(verdict);
+        ScanStarted {
+            refusal: refusal.number,
+            place: refusal.place,
+            scan,
+        }
+    }
+}
+
 impl From<Started> for ScanStarted {
     ghost from_gives = { λ s a. a ≡ started_c (said s.verdict) s.scan };
 
     fn from(started: Started) -> ScanStarted {
-        let refusal = Refusal::from(started.verdict);
-        ScanStarted {
-            refusal: refusal.number,
-            place: refusal.place,
-            scan: started.scan,
-        }
+        ScanStarted::new(started.verdict, started.scan)
     }
 }
 

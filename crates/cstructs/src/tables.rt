@@ -1,10 +1,11 @@
 //! What the calls on a table file answer, as C has it.
-ghost use Rattle.std.specs.Prelude.{◌≡◌};
-ghost use Rattle.table.specs.Format.{given};
+ghost use Rattle.std.specs.Prelude.{◌≡◌, [], ◌∷◌, pos};
+ghost use Rattle.table.specs.Format.{handed, given};
 ghost use Rattle.table.specs.Writing.{written_said};
-ghost use Rattle.cstructs.specs.Answers.{loaded_c, written_c};
+ghost use Rattle.cstructs.specs.Answers.{result_by, verdict_by, loaded_c, written_c};
 
-use layout::{Refusal, Table};
+use crate::answers;
+use layout::{Numbered, Refusal, Table};
 use limits::Header;
 use table::bare;
 
@@ -27,27 +28,57 @@ pub struct TableWritten {
     pub length: usize,
 }
 
+impl TableLoaded {
+    /// Whether a file was loaded, whatever refused it, and the table that is handed out.
+    pub fn new<R: Numbered>(verdict: Result<(), R>, table: Table) -> TableLoaded
+        ensures { result ≡ loaded_c (handed (verdict_by R.number_said R.place_said verdict) table) }
+    {
+        let refusal = answers::Refusal::new(verdict);
+        TableLoaded {
+            refusal: refusal.number,
+            place: refusal.place,
+            table,
+        }
+    }
+}
+
+/// With a refusal goes a table with no rectangle.
 impl From<Result<Table, Refusal>> for TableLoaded {
     ghost from_gives = { λ v a. a ≡ loaded_c (given v) };
 
     fn from(loaded: Result<Table, Refusal>) -> TableLoaded {
         match loaded {
-            Err(no) => TableLoaded {
-                refusal: no.question.number(),
-                place: no.place,
-                table: bare(Header {
+            Ok(table) => TableLoaded::new::<Refusal>(Ok(()), table),
+            Err(no) => {
+                let none = bare(Header {
                     b: 0,
                     q1: 0,
                     q2: 0,
                     q3: 0,
                     t: 0,
                     w: 0,
-                }),
+                });
+                TableLoaded::new(Err(no), none)
+            }
+        }
+    }
+}
+
+impl TableWritten {
+    /// The length of a file that was written, or the refusal, whatever refused.
+    pub fn new<R: Numbered>(written: Result<usize, R>) -> TableWritten
+        ensures { result ≡ written_c (result_by R.number_said R.place_said (λ n. pos n ∷ []) written) }
+    {
+        match written {
+            Err(no) => TableWritten {
+                refusal: no.number(),
+                place: no.place(),
+                length: 0,
             },
-            Ok(table) => TableLoaded {
+            Ok(length) => TableWritten {
                 refusal: 0,
                 place: 0,
-                table,
+                length,
             },
         }
     }
@@ -57,17 +88,6 @@ impl From<Result<usize, Refusal>> for TableWritten {
     ghost from_gives = { λ v a. a ≡ written_c (written_said v) };
 
     fn from(written: Result<usize, Refusal>) -> TableWritten {
-        match written {
-            Err(refusal) => TableWritten {
-                refusal: refusal.question.number(),
-                place: refusal.place,
-                length: 0,
-            },
-            Ok(length) => TableWritten {
-                refusal: 0,
-                place: 0,
-                length,
-            },
-        }
+        TableWritten::new(written)
     }
 }
