@@ -1,6 +1,6 @@
 -- The ratings that stand in the stores are those of the choices.
 -- Assumes nothing.
-use Rattle.std.proofs.Common.{Option, None, get_or, ℕ, ◌≤◌, ◌<◌, arith, ◌≡◌, ap, ap₂, ◌∙◌, not, ◌&&◌, List}
+use Rattle.std.proofs.Common.{Option, None, get_or, ℕ, ◌≤◌, ◌<◌, arith, ◌≡◌, ap, ap₂, ◌∙◌, Bool, not, ◌&&◌, List}
 use Rattle.arith.specs.Tab.{tab}
 use Rattle.arith.proofs.Alls.{all_cong}
 use Rattle.arith.proofs.Tabs.{tab_cong, get_or-tab}
@@ -26,10 +26,11 @@ pub stored_is : (t : Table) (l n : ℕ) {fs : List (Option Figures)} → fs ≡ 
 unfolding rating
 stored_is t l n e i h = ap rating_of (ap (λ fs. get_or fs i None) e ∙ get_or-tab n (λ i. figures_of (with_drops t i) l) i None h)
 
--- marks by the store are marks by the choices
-pub marks_are : (t : Table) (l n : ℕ) {fs : List (Option Figures)} → fs ≡ tab n (λ i. figures_of (with_drops t i) l) → n ≡ choice_count t
-    → tab n (unbeaten n (stored fs)) ≡ tab (choice_count t) (listed t l)
+-- marks by the store are marks by the choices, whatever they are marked with
+pub marks_are : {A : Type 0} (mark : Bool → A) (t : Table) (l n : ℕ) {fs : List (Option Figures)}
+    → fs ≡ tab n (λ i. figures_of (with_drops t i) l) → n ≡ choice_count t
+    → tab n (λ i. mark (unbeaten n (stored fs) i)) ≡ tab (choice_count t) (λ i. mark (listed t l i))
 unfolding listed
-marks_are t l n e c =
-    tab_cong n (λ i h. unbeaten_cong n (stored_is t l n e) i h ∙ ap (λ m. unbeaten m (rating t l) i) c)
-    ∙ ap (λ k. tab k (λ i. unbeaten (choice_count t) (rating t l) i)) c
+marks_are mark t l n e c =
+    tab_cong n (λ i h. ap mark (unbeaten_cong n (stored_is t l n e) i h ∙ ap (λ m. unbeaten m (rating t l) i) c))
+    ∙ ap (λ k. tab k (λ i. mark (unbeaten (choice_count t) (rating t l) i))) c

@@ -3,11 +3,11 @@
 //! far a pixel may be off, and is better in one of them.
 //!
 //!   with_drops  a table with a choice in place of its own drops
-//!   mark        which choices are listed
+//!   mark, Flag  which choices are listed, and what each is marked with
 #![tactic(auto)]
 
 mod marks;
 mod ratings;
 
-pub use marks::mark;
+pub use marks::{Flag, mark};
 pub use ratings::with_drops;

@@ -10,7 +10,7 @@ use Rattle.choices.proofs.Stored.{marks_are}
 use Rattle.choices.proofs.marks.mark.Goals as goal
 
 pub returns-clause-marks_after : goal.returns-clause-marks_after
-returns-clause-marks_after c =
+returns-clause-marks_after g c =
     let t = c.args.t.now in
     let n = c.choice_count-n.result in
     let v = c.choice_count-n.ensures.value in
@@ -21,5 +21,6 @@ returns-clause-marks_after c =
     let r : figures ≡ tab n f = c.rate.ensures ∙ ap (λ m. tab m f) (length-take-le n (replicate 972 None) (omega arith)) in
     let m : length figures ≡ n = ap length r ∙ length-tab n f in
     let o = length-take-le n c.args.marks.now (let h = c.told-marks in omega arith) in
-    let e = c.mark_each.ensures ∙ ap₂ (λ j k. tab j (unbeaten k (stored figures))) o m in
-    ap₂ ◌++◌ (e ∙ marks_are t c.args.width n r v) (ap (λ k. drop k c.args.marks.now) v)
+    let mark = g.M.Flag.flag_of in
+    let e = c.mark_each.ensures ∙ ap₂ (λ j k. tab j (λ i. mark (unbeaten k (stored figures) i))) o m in
+    ap₂ ◌++◌ (e ∙ marks_are mark t c.args.width n r v) (ap (λ k. drop k c.args.marks.now) v)

@@ -5,4 +5,6 @@ use Rattle.choices.proofs.marks.mark_each.Given as goal
 
 -- the choices passed
 abbrev pub invariant-loop-i : goal.invariant-loop-i
-invariant-loop-i l = (k : ℕ) → k < l.i → get_or l.marks k false ≡ unbeaten (length l.fn.figures) (stored l.fn.figures) k
+invariant-loop-i g l =
+    let f = g.M.Flag.flag_of in
+    (k : ℕ) → k < l.i → get_or l.marks k (f false) ≡ f (unbeaten (length l.fn.figures) (stored l.fn.figures) k)
