@@ -1,3 +1,4 @@
 pub mod Rects
+pub mod Written
 pub mod Parts
 pub mod Answers

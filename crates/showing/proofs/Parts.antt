@@ -1,17 +1,21 @@
--- What is shown of a file, from what reading it answers and from the texts that were put.
+-- What is shown of a file, from what reading it answers and from the texts that were put; and what is printed of a struct.
 -- Assumes nothing.
-use Rattle.std.proofs.Common.{◌≡◌, ◌≤◌, ℕ, List, [], ◌∷◌, ◌++◌, length, pos, Result, Ok, Err, true, false, cond, sym, ap, ap₂, ◌∙◌, subst, append-nil, le-leb}
+use Rattle.std.proofs.Common.{◌≡◌, ◌≤◌, ext_get_or, ℕ, List, [], ◌∷◌, ◌++◌, length, get_or, take, drop, pos, Result, Ok, Err, true, false, cond, sym, ap, ap₂, ◌∙◌, subst, append-nil, le-leb, arith}
+use Rattle.std.proofs.lemmas.List.{length-take, get_or-take}
+use Rattle.arith.specs.Tab.{tab}
+use Rattle.arith.proofs.Tabs.{length-tab, get_or-tab}
+use Rattle.layout.specs.declared.Rect.{Rect}
 use Rattle.layout.specs.declared.Table.{Table}
 use Rattle.layout.specs.declared.asking.Refusal.{Refusal}
-use Rattle.layout.specs.Contents.{Contents, contents, table_of}
+use Rattle.layout.specs.Contents.{Contents, contents, table_of, no_rect}
 use Rattle.layout.specs.Answers.{accepted, no_said, wrote}
 use Rattle.limits.specs.Limits.{fitting, value_good}
 use Rattle.table.specs.Format.{loaded, parse_of, given, handed_out, table_from}
 use Rattle.table.proofs.Sound.{refused_from, loaded_from, parse_sound}
-use Rattle.table.proofs.Structs.{contents-table_of}
+use Rattle.table.proofs.Structs.{contents-table_of, with_rects}
 use Rattle.text.specs.Text.{Put}
 use Rattle.text.proofs.Puts.{put_start, put_then}
-use Rattle.showing.specs.Showing.{text_of, remark, shown_text, shown_of}
+use Rattle.showing.specs.Showing.{text_of, remark, shown_text, shown_of, told, printed, shown_at}
 
 -- questions 1 to 9 were answered yes: the struct says the table c that was read, and what is left of question 10 is its own test
 pub record Read (bs : List ℕ) (t : Table) : Type 0 where
@@ -44,10 +48,10 @@ unfolding shown_of
 shows_refusal bs out {v} {r} e a = sym (ap (λ o. shown_of o out) (refused_from (parse_of bs) _ _ (sym (ap (λ h. h.said) (sym (ap given a) ∙ e)))))
 
 -- what is shown of the table c was put
-shows : (bs out : List ℕ) {out1 : List ℕ} {n : ℕ} (c : Contents) → parse_of bs ≡ loaded c → Put out 0 (shown_text c) out1 n
+shows_loaded : (bs out : List ℕ) {out1 : List ℕ} {n : ℕ} (c : Contents) → parse_of bs ≡ loaded c → Put out 0 (shown_text c) out1 n
     → wrote (accepted (pos n ∷ [])) out1 ≡ shown_of (parse_of bs) out
 unfolding shown_of
-shows bs out c e p =
+shows_loaded bs out c e p =
     let s = put_start p in
     ap₂ (λ n o. wrote (accepted (pos n ∷ [])) o) s.0 s.1 ∙ sym (ap (λ o. shown_of o out) e)
 
@@ -56,7 +60,7 @@ pub shows_text : (bs out : List ℕ) {out1 : List ℕ} {n : ℕ} {t : Table} →
     → wrote (accepted (pos n ∷ [])) out1 ≡ shown_of (parse_of bs) out
 unfolding shown_text
 shows_text bs out {out1} {n} {t} r y p =
-    shows bs out r.c r.is
+    shows_loaded bs out r.c r.is
     (subst (λ s. Put out 0 s out1 n)
     (ap text_of r.says ∙ sym (append-nil (text_of r.c)) ∙ ap (λ b. text_of r.c ++ cond b [] remark) (sym y ∙ r.fits)) p)
 
@@ -65,6 +69,35 @@ pub shows_remark : (bs out : List ℕ) {out1 out2 : List ℕ} {n m : ℕ} {t : T
     → Put out 0 (text_of (contents t)) out1 n → Put out1 n remark out2 m → wrote (accepted (pos m ∷ [])) out2 ≡ shown_of (parse_of bs) out
 unfolding shown_text
 shows_remark bs out {out1} {out2} {n} {m} {t} r y p q =
-    shows bs out r.c r.is
+    shows_loaded bs out r.c r.is
     (subst (λ s. Put out 0 s out2 m)
     (ap (λ d. text_of d ++ remark) r.says ∙ ap (λ b. text_of r.c ++ cond b [] remark) (sym y ∙ r.fits)) (put_then p q))
+
+-- ---- what is printed of a struct
+
+-- the struct of up to 16 rectangles holds them in its slots
+told_of : (c : Contents) → length c.rects ≤ 16 → told (table_of c) ≡ c
+told_of c h =
+    let f : ℕ → Rect = λ k. get_or c.rects k no_rect in
+    let l : length (take (length c.rects) (tab 16 f)) ≡ length c.rects = length-take (length c.rects) (tab 16 f) ∙ (let n = length-tab 16 f in omega (arith, n)) in
+    ap (with_rects c)
+    (ext_get_or no_rect (take (length c.rects) (tab 16 f)) c.rects l
+    (λ k p. get_or-take (length c.rects) (tab 16 f) k no_rect (omega (arith, l)) ∙ get_or-tab 16 f k no_rect (omega (arith, l))))
+
+-- what is printed of a table that was read
+printed_of : (bs : List ℕ) (c : Contents) → parse_of bs ≡ loaded c → printed (table_of c) ≡ shown_text c
+unfolding printed shown_text fitting
+printed_of bs c e =
+    let p = parse_sound bs c e in
+    let k = contents-table_of c p.most in
+    rw (told_of c p.most, p.head.bits, p.head.drops, p.head.word, le-leb (length c.rects) 16 p.most) (ap (λ d. text_of c ++ cond (value_good d) [] remark) k)
+
+-- of a file that is read, the struct says what is shown of it
+pub shows : (bs : List ℕ) {v : Result Table Refusal} {t : Table} → given v ≡ handed_out (parse_of bs) → v ≡ Ok t
+    → (out : List ℕ) → shown_at (Ok (record { 0 = t })) out ≡ shown_of (parse_of bs) out
+unfolding shown_of
+shows bs {v} {t} e a out =
+    let g = sym (ap given a) ∙ e in
+    let l = loaded_from (parse_of bs) (sym (ap (λ h. h.said) g)) in
+    let s : t ≡ table_of l.0 = ap (λ h. h.table) g ∙ ap table_from l.1 in
+    ap (λ x. wrote (accepted (pos (length x) ∷ [])) (x ++ drop (length x) out)) (ap printed s ∙ printed_of bs l.0 l.1) ∙ sym (ap (λ o. shown_of o out) l.1)

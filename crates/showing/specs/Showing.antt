@@ -1,15 +1,17 @@
 -- A table shown as text: what is shown of a table file, by what reading it comes to.
 -- Assumes nothing.
-use Rattle.std.specs.Prelude.{ℕ, cond, List, [], ◌∷◌, ◌++◌, length, drop, ℤ, pos, Result}
+use Rattle.std.specs.Prelude.{ℕ, cond, List, [], ◌∷◌, ◌++◌, length, drop, ℤ, pos, Result, Ok, Err}
 use Rattle.layout.specs.declared.Rect.{Rect}
+use Rattle.layout.specs.declared.Table.{Table}
 use Rattle.layout.specs.declared.asking.Refusal.{Refusal}
-use Rattle.layout.specs.Contents.{Contents}
+use Rattle.layout.specs.Contents.{Contents, rects_of}
 use Rattle.layout.specs.Answers.{Said, refused as refusal, accepted, result_said, Wrote, wrote}
-use Rattle.limits.specs.Limits.{value_good}
+use Rattle.limits.specs.Limits.{value_good, fitting}
 use Rattle.table.specs.Format.{Outcome, refused, loaded}
 use Rattle.text.specs.Text.{cell, signed_cell}
 use Rattle.text.specs.Ascii.{ascii}
 use Rattle.refusals.specs.Sentences.{refusal_text}
+use Rattle.showing.specs.declared.Shown.{Shown}
 
 -- ---- the text of a table
 
@@ -64,3 +66,18 @@ shown_said v = result_said (λ n. pos n ∷ []) v
 unfoldable pub shown_of : Outcome → (out : List ℕ) → Wrote
 shown_of (refused number place) out = wrote (refusal number place) out
 shown_of (loaded c) out = wrote (accepted (pos (length (shown_text c)) ∷ [])) (shown_text c ++ drop (length (shown_text c)) out)
+
+-- ---- what is printed of a struct
+
+-- what the struct says of a table: the rectangles in its slots
+abbrev pub told : Table → Contents
+told t = record { b = t.b; q1 = t.q1; q2 = t.q2; q3 = t.q3; t = t.t; w = t.w; rects = rects_of t }
+
+-- what is printed of a struct: its text, with the comment where question 10, or what stands before it, says no
+unfoldable pub printed : Table → List ℕ
+printed t = text_of (told t) ++ cond (fitting t) [] remark
+
+-- what an answer with a struct says, and an output with what is printed at its start
+abbrev pub shown_at : Result Shown Refusal → (out : List ℕ) → Wrote
+shown_at (Ok s) out = wrote (shown_said (Ok (length (printed s.0)))) (printed s.0 ++ drop (length (printed s.0)) out)
+shown_at (Err r) out = wrote (shown_said (Err r)) out

@@ -1,20 +1,23 @@
 //! A table file shown as text, which maketable reads.
 //!
-//!   show  how many bytes were put at the start of the output; or the refusal, by questions 1 to 9. A table that question 10 refuses is
-//!         shown, with a comment behind it
+//!   show   how many bytes were put at the start of the output; or the refusal, by questions 1 to 9. A table that question 10 refuses is
+//!          shown, with a comment behind it
+//!   Shown  any table: its text, printed, with the same comment behind it
 #![tactic(auto)]
 
 mod cells;
 mod lines;
 
-ghost use Rattle.std.specs.Prelude.{◌≡◌};
+ghost use Rattle.std.specs.Prelude.{◌≡◌, Some};
 ghost use Rattle.layout.specs.Answers.{wrote};
 ghost use Rattle.table.specs.Format.{parse_of};
-ghost use Rattle.showing.specs.Showing.{shown_said, shown_of};
+ghost use Rattle.text.specs.Text.{Put};
+ghost use Rattle.showing.specs.Showing.{shown_said, shown_of, printed};
 
-use layout::Refusal;
+use layout::{Refusal, Table};
 use limits::value_good;
 use lines::{put_remark, put_table};
+use std::fmt;
 
 /// Shows a table file at the start of the output, and answers how many bytes were put; a refused one leaves the output as it was.
 pub fn show(bytes: &[u8], out: &mut [u8; 4096]) -> Result<usize, Refusal>
@@ -26,4 +29,92 @@ pub fn show(bytes: &[u8], out: &mut [u8; 4096]) -> Result<usize, Refusal>
         return Ok(end);
     }
     Ok(put_remark(out, end))
+}
+
+/// Puts the text of any table at the start of the output, with the comment behind it where question 10, or one before it, says no.
+fn put_printed(out: &mut [u8; 4096], table: Table) -> usize
+    ensures { Put out.old 0 (printed table) out.new result }
+{
+    let slots = Table {
+        count: table.rects().len(),
+        ..table
+    };
+    let past = put_table(out, slots);
+    if value_good(table) {
+        return past;
+    }
+    put_remark(out, past)
+}
+
+/// A table, read or made by hand, printed as its text, with the comment behind it where question 10, or one before it, says no.
+#[derive(Clone, Copy, Debug, PartialEq, Eq)]
+pub struct Shown(pub Table);
+
+impl fmt::Display for Shown {
+    ghost output = { λ s. Some (printed s.0) };
+
+    fn fmt<W: fmt::Write>(&self, f: &mut fmt::Formatter<W>) -> fmt::Result {
+        let mut text = [0u8; 4096];
+        let end = put_printed(&mut text, self.0);
+        match std::str::from_utf8(&text[..end]) {
+            Ok(text) => f.write_str(text),
+            Err(_) => Err(fmt::Error),
+        }
+    }
+}
+
+#[cfg(test)]
+mod tests {
+    use super::*;
+    use layout::Rect;
+    use std::alloc::AllocError;
+
+    // Samples of 8 bits and windows of 3 by 3, whose pixels of 12 bits fit a word of 13 with its sign.
+    fn table_of(w: u8, count: usize) -> Table {
+        let window = Rect {
+            leadrow: 1,
+            leadcol: 1,
+            trailrow: -2,
+            trailcol: -2,
+            weight: 1,
+        };
+        Table {
+            b: 8,
+            q1: 0,
+            q2: 0,
+            q3: 0,
+            t: 0,
+            w,
+            count,
+            rects: [window; 16],
+        }
+    }
+
+    #[test]
+    fn a_struct_is_printed(rt: HostRuntime) -> Result<(), AllocError> {
+        let accepted = format!(in rt.alloc(); "{}", Shown(table_of(13, 1)))?;
+        assert_eq!(rt;
+            accepted.as_str(),
+            "bits 8\ndrops 0 0 0\nshift 0\nword 13\nrectangle lead 1 1 trail -2 -2 weight 1\n"
+        );
+        let refused = format!(in rt.alloc(); "{}", Shown(table_of(9, 0)))?;
+        assert_eq!(rt; refused.as_str(), "bits 8\ndrops 0 0 0\nshift 0\nword 9\n");
+        Ok(())
+    }
+
+    #[test]
+    fn a_refused_struct_is_printed(rt: HostRuntime) -> Result<(), AllocError> {
+        let narrow = format!(in rt.alloc(); "{}", Shown(table_of(9, 1)))?;
+        assert_eq!(rt;
+            narrow.as_str(),
+            "bits 8\ndrops 0 0 0\nshift 0\nword 9\nrectangle lead 1 1 trail -2 -2 weight 1\n# refused, 10: the largest or the smallest pixel does not fit w bits\n"
+        );
+        let beyond = format!(in rt.alloc(); "{}", Shown(table_of(32, 17)))?;
+        assert!(rt;
+            beyond.ends_with(
+                "weight 1\n# refused, 10: the largest or the smallest pixel does not fit w bits\n"
+            )
+        );
+        Ok(())
+    }
 }
