@@ -1,8 +1,7 @@
 -- What is printed of a struct: the rectangles in its slots, then the comment where there is one.
 -- Assumes nothing.
-use Rattle.std.proofs.Common.{◌≡◌, ext_get_or, ℕ, List, [], ◌∷◌, ◌++◌, length, true, false, refl, sym, ap, ◌∙◌, append_assoc, append-nil, arith}
+use Rattle.std.proofs.Common.{◌≡◌, ext_get_or, ℕ, List, [], ◌∷◌, ◌++◌, length, true, false, codes, refl, sym, ap, ◌∙◌, append_assoc, append-nil, arith}
 use Rattle.std.proofs.lemmas.List.{length-take, get_or-take}
-use lib.Chars.{codes}
 use Rattle.arith.specs.Tab.{tab}
 use Rattle.arith.proofs.Tabs.{length-tab, get_or-tab}
 use Rattle.layout.specs.declared.Rect.{Rect}
