@@ -73,7 +73,7 @@ shown_of (loaded c) out = wrote (accepted (pos (length (shown_text c)) ∷ [])) 
 abbrev pub told : Table → Contents
 told t = record { b = t.b; q1 = t.q1; q2 = t.q2; q3 = t.q3; t = t.t; w = t.w; rects = rects_of t }
 
--- what is printed of a struct: its text, with the comment where question 10, or what stands before it, says no
+-- what is printed of a struct: its text, with the comment where question 3, 4, 5 or 10 says no, or there are more than 16 rectangles
 unfoldable pub printed : Table → List ℕ
 printed t = text_of (told t) ++ cond (fitting t) [] remark
 

@@ -31,7 +31,8 @@ pub fn show(bytes: &[u8], out: &mut [u8; 4096]) -> Result<usize, Refusal>
     Ok(put_remark(out, end))
 }
 
-/// Puts the text of any table at the start of the output, with the comment behind it where question 10, or one before it, says no.
+/// Puts the text of any table at the start of the output, with the comment behind it where question 3, 4, 5 or 10 says no, or there
+/// are more than 16 rectangles.
 fn put_printed(out: &mut [u8; 4096], table: Table) -> usize
     ensures { Put out.old 0 (printed table) out.new result }
 {
@@ -46,7 +47,8 @@ fn put_printed(out: &mut [u8; 4096], table: Table) -> usize
     put_remark(out, past)
 }
 
-/// A table, read or made by hand, printed as its text, with the comment behind it where question 10, or one before it, says no.
+/// A table, read or made by hand, printed as its text, with the comment behind it where question 3, 4, 5 or 10 says no, or there are
+/// more than 16 rectangles.
 #[derive(Clone, Copy, Debug, PartialEq, Eq)]
 pub struct Shown(pub Table);
 
