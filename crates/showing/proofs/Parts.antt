@@ -1,21 +1,20 @@
 -- What is shown of a file, from what reading it answers and from the texts that were put; and what is printed of a struct.
 -- Assumes nothing.
-use Rattle.std.proofs.Common.{◌≡◌, ◌≤◌, ext_get_or, ℕ, List, [], ◌∷◌, ◌++◌, length, get_or, take, drop, pos, Result, Ok, Err, true, false, cond, sym, ap, ap₂, ◌∙◌, subst, append-nil, le-leb, arith}
-use Rattle.std.proofs.lemmas.List.{length-take, get_or-take}
-use Rattle.arith.specs.Tab.{tab}
-use Rattle.arith.proofs.Tabs.{length-tab, get_or-tab}
-use Rattle.layout.specs.declared.Rect.{Rect}
+use Rattle.std.proofs.Common.{◌≡◌, ◌≤◌, ℕ, List, [], ◌∷◌, ◌++◌, length, drop, pos, Result, Ok, Err, true, false, cond, refl, sym, ap, ap₂, ◌∙◌, subst, append-nil, le-leb, arith}
+use Rattle.std.proofs.lemmas.List.{length-take}
+use Rattle.arith.proofs.Tabs.{length-tab}
 use Rattle.layout.specs.declared.Table.{Table}
 use Rattle.layout.specs.declared.asking.Refusal.{Refusal}
-use Rattle.layout.specs.Contents.{Contents, contents, table_of, no_rect}
+use Rattle.layout.specs.Contents.{Contents, contents, table_of, rects_of}
 use Rattle.layout.specs.Answers.{accepted, no_said, wrote}
 use Rattle.limits.specs.Limits.{fitting, value_good}
 use Rattle.table.specs.Format.{loaded, parse_of, given, handed_out, table_from}
 use Rattle.table.proofs.Sound.{refused_from, loaded_from, parse_sound}
-use Rattle.table.proofs.Structs.{contents-table_of, with_rects}
+use Rattle.table.proofs.Structs.{contents-table_of}
 use Rattle.text.specs.Text.{Put}
 use Rattle.text.proofs.Puts.{put_start, put_then}
 use Rattle.showing.specs.Showing.{text_of, remark, shown_text, shown_of, told, printed, shown_at}
+use Rattle.showing.proofs.Written.{contents_told}
 
 -- questions 1 to 9 were answered yes: the struct says the table c that was read, and what is left of question 10 is its own test
 pub record Read (bs : List ℕ) (t : Table) : Type 0 where
@@ -23,6 +22,7 @@ pub record Read (bs : List ℕ) (t : Table) : Type 0 where
   pub is : parse_of bs ≡ loaded c
   pub says : contents t ≡ c
   pub few : t.count ≤ 16
+  pub slots : length t.rects ≡ 16
   pub fits : fitting t ≡ value_good c
 
 pub read : (bs : List ℕ) {v : Result Table Refusal} {t : Table} → given v ≡ handed_out (parse_of bs) → v ≡ Ok t → Read bs t
@@ -38,6 +38,7 @@ read bs {v} {t} e a =
       is = l.1;
       says = ap contents s ∙ k;
       few = subst (λ u. u.count ≤ 16) (sym s) p.most;
+      slots = ap (λ u. length u.rects) s ∙ length-tab 16 _;
       fits = ap fitting s ∙ rw (p.head.bits, p.head.drops, p.head.word, le-leb (length l.0.rects) 16 p.most) (ap value_good k);
     }
 
@@ -75,29 +76,15 @@ shows_remark bs out {out1} {out2} {n} {m} {t} r y p q =
 
 -- ---- what is printed of a struct
 
--- the struct of up to 16 rectangles holds them in its slots
-told_of : (c : Contents) → length c.rects ≤ 16 → told (table_of c) ≡ c
-told_of c h =
-    let f : ℕ → Rect = λ k. get_or c.rects k no_rect in
-    let l : length (take (length c.rects) (tab 16 f)) ≡ length c.rects = length-take (length c.rects) (tab 16 f) ∙ (let n = length-tab 16 f in omega (arith, n)) in
-    ap (with_rects c)
-    (ext_get_or no_rect (take (length c.rects) (tab 16 f)) c.rects l
-    (λ k p. get_or-take (length c.rects) (tab 16 f) k no_rect (omega (arith, l)) ∙ get_or-tab 16 f k no_rect (omega (arith, l))))
-
--- what is printed of a table that was read
-printed_of : (bs : List ℕ) (c : Contents) → parse_of bs ≡ loaded c → printed (table_of c) ≡ shown_text c
-unfolding printed shown_text fitting
-printed_of bs c e =
-    let p = parse_sound bs c e in
-    let k = contents-table_of c p.most in
-    rw (told_of c p.most, p.head.bits, p.head.drops, p.head.word, le-leb (length c.rects) 16 p.most) (ap (λ d. text_of c ++ cond (value_good d) [] remark) k)
-
 -- of a file that is read, the struct says what is shown of it
 pub shows : (bs : List ℕ) {v : Result Table Refusal} {t : Table} → given v ≡ handed_out (parse_of bs) → v ≡ Ok t
     → (out : List ℕ) → shown_at (Ok (record { 0 = t })) out ≡ shown_of (parse_of bs) out
-unfolding shown_of
+unfolding shown_of printed shown_text
 shows bs {v} {t} e a out =
-    let g = sym (ap given a) ∙ e in
-    let l = loaded_from (parse_of bs) (sym (ap (λ h. h.said) g)) in
-    let s : t ≡ table_of l.0 = ap (λ h. h.table) g ∙ ap table_from l.1 in
-    ap (λ x. wrote (accepted (pos (length x) ∷ [])) (x ++ drop (length x) out)) (ap printed s ∙ printed_of bs l.0 l.1) ∙ sym (ap (λ o. shown_of o out) l.1)
+    let r = read bs e a in
+    let n = length-take t.count t.rects in
+    let few = r.few in
+    let long = r.slots in
+    let same : told t ≡ r.c = sym (contents_told t (rects_of t) t.count refl (omega arith)) ∙ r.says in
+    ap₂ (λ c b. let text = text_of c ++ cond b [] remark in wrote (accepted (pos (length text) ∷ [])) (text ++ drop (length text) out)) same r.fits
+    ∙ sym (ap (λ o. shown_of o out) r.is)

@@ -31,17 +31,16 @@ pub fn show(bytes: &[u8], out: &mut [u8; 4096]) -> Result<usize, Refusal>
     Ok(put_remark(out, end))
 }
 
-/// Puts the text of any table at the start of the output, with the comment behind it where question 3, 4, 5 or 10 says no, or there
-/// are more than 16 rectangles.
-fn put_printed(out: &mut [u8; 4096], table: Table) -> usize
-    ensures { Put out.old 0 (printed table) out.new result }
+/// What `Shown` prints, put at the start of the output.
+fn put_printed(out: &mut [u8; 4096], whole: Table) -> usize
+    ensures { Put out.old 0 (printed whole) out.new result }
 {
     let slots = Table {
-        count: table.rects().len(),
-        ..table
+        count: whole.rects().len(),
+        ..whole
     };
     let past = put_table(out, slots);
-    if value_good(table) {
+    if value_good(whole) {
         return past;
     }
     put_remark(out, past)
@@ -71,7 +70,8 @@ mod tests {
     use layout::Rect;
     use std::alloc::AllocError;
 
-    // Samples of 8 bits and windows of 3 by 3, whose pixels of 12 bits fit a word of 13 with its sign.
+    // Samples of 8 bits and windows of 3 by 3: a pixel is at most 2,295 of one, which a word of 13 bits holds, 36,720 of 16, which one of
+    // 17 bits does.
     fn table_of(w: u8, count: usize) -> Table {
         let window = Rect {
             leadrow: 1,
@@ -94,29 +94,24 @@ mod tests {
 
     #[test]
     fn a_struct_is_printed(rt: HostRuntime) -> Result<(), AllocError> {
-        let accepted = format!(in rt.alloc(); "{}", Shown(table_of(13, 1)))?;
-        assert_eq!(rt;
-            accepted.as_str(),
-            "bits 8\ndrops 0 0 0\nshift 0\nword 13\nrectangle lead 1 1 trail -2 -2 weight 1\n"
-        );
-        let refused = format!(in rt.alloc(); "{}", Shown(table_of(9, 0)))?;
-        assert_eq!(rt; refused.as_str(), "bits 8\ndrops 0 0 0\nshift 0\nword 9\n");
-        Ok(())
-    }
-
-    #[test]
-    fn a_refused_struct_is_printed(rt: HostRuntime) -> Result<(), AllocError> {
-        let narrow = format!(in rt.alloc(); "{}", Shown(table_of(9, 1)))?;
-        assert_eq!(rt;
-            narrow.as_str(),
-            "bits 8\ndrops 0 0 0\nshift 0\nword 9\nrectangle lead 1 1 trail -2 -2 weight 1\n# refused, 10: the largest or the smallest pixel does not fit w bits\n"
-        );
-        let beyond = format!(in rt.alloc(); "{}", Shown(table_of(32, 17)))?;
-        assert!(rt;
-            beyond.ends_with(
-                "weight 1\n# refused, 10: the largest or the smallest pixel does not fit w bits\n"
-            )
-        );
+        let head = "bits 8\ndrops 0 0 0\nshift 0\nword ";
+        let window = "rectangle lead 1 1 trail -2 -2 weight 1\n";
+        let remark = "# refused, 10: the largest or the smallest pixel does not fit w bits\n";
+        for (w, count, slots, behind) in [
+            (13, 0, 0, ""),
+            (13, 1, 1, ""),
+            (13, 16, 16, remark),
+            (17, 16, 16, ""),
+            (17, 17, 16, remark),
+        ] {
+            let printed = format!(in rt.alloc(); "{}", Shown(table_of(w, count)))?;
+            let mut text = format!(in rt.alloc(); "{head}{w}\n")?;
+            for _ in 0..slots {
+                text.push_str(window)?;
+            }
+            text.push_str(behind)?;
+            assert_eq!(rt; printed.as_str(), text.as_str());
+        }
         Ok(())
     }
 }
